@@ -1,42 +1,45 @@
--- Lists that are halved, place by place of a number.
-use Rattle.std.proofs.Common.{◌≡◌, ℕ, suc, ◌+◌, ◌*◌, ◌^◌, ◌<◌, ◌≤◌, ◌⊎◌, inl, inr, Bool, true, false, cond, List, [], ◌∷◌, ◌++◌, length, take, get_or, sym, ◌∙◌, ap, arith, pow-suc}
+-- The literal at the place that a number tells, in two parts of a list.
+use Rattle.std.proofs.Common.{◌≡◌, ℕ, suc, ◌+◌, ◌*◌, ◌^◌, ◌<◌, ◌≤◌, ◌⊎◌, inl, inr, min, Bool, true, false, cond, List, length, take, drop, get_or, sym, ◌∙◌, ap, arith}
 use Rattle.std.proofs.lemmas.Bool.{cases_lt}
-use Rattle.std.proofs.lemmas.List.{get_or_past, get_or_append_left, get_or_push}
+use Rattle.std.proofs.lemmas.List.{get_or_past, get_or-take, get_or-drop, take_all, length-take-le}
 use Rattle.can_gates.specs.declared.literal.Literal.{Literal}
 use Rattle.can_gates.specs.Circuit.{value}
 use Rattle.can_gates.specs.Words.{number, bit}
 use Rattle.can_gates.proofs.Constants.{never}
-use Rattle.can_gates.proofs.WordNumbers.{number-take}
+use Rattle.can_gates.proofs.WordNumbers.{number-take, number-take-lt}
 
 -- the value of the literal at this place of a list
 abbrev pub value_at : (ℕ → Bool) → List Literal → ℕ → Bool
 value_at v items k = value v (get_or items k never)
 
--- earlier places of a half stay
-pub half-earlier : (v : ℕ → Bool) (half more items : List Literal) (level : Literal) (n k : ℕ) → more ≡ half ++ level ∷ [] → k < length half → value_at v half k ≡ value_at v items n → value_at v more k ≡ value_at v items n
-half-earlier v half more items level n k e within before = ap (λ l. value_at v l k) e ∙ ap (value v) (get_or_append_left half (level ∷ []) never k within) ∙ before
-
--- and the new one is chosen of two
-pub half-last : (v : ℕ → Bool) (half more items : List Literal) (test even odd level : Literal) (i : ℕ) → more ≡ half ++ level ∷ [] → length half ≡ i → even ≡ get_or items (2 * i) never → odd ≡ get_or items (2 * i + 1) never → value v level ≡ cond (value v test) (value v odd) (value v even)
-    → value_at v more i ≡ value_at v items (bit (value v test) + 2 * i)
-half-last v half more items test even odd level i e long at_even at_odd is =
-    ap (λ l. value_at v l i) e ∙ ap (value v) (get_or_push half level never i long) ∙ is ∙ rw (at_even, at_odd) (by (value v test))
+-- the first half places, p of them if there are so many
+low_part : (v : ℕ → Bool) (items : List Literal) (n half p : ℕ) → n < p → half ≡ min p (length items) → value_at v (take half items) n ≡ value_at v items n
+low_part v items n half p small is = by (cases_lt n half)
   where
-    by : (t : Bool) → cond t (value_at v items (2 * i + 1)) (value_at v items (2 * i)) ≡ value_at v items (bit t + 2 * i)
-    by true = let same : 2 * i + 1 ≡ 1 + 2 * i = omega arith in ap (value_at v items) same
-    by false = let same : 2 * i ≡ 0 + 2 * i = omega arith in ap (value_at v items) same
+    by : (n < half) ⊎ (half ≤ n) → value_at v (take half items) n ≡ value_at v items n
+    by (inl h) = ap (value v) (get_or-take half items n never h)
+    by (inr h) =
+        let long = length-take-le half items (omega (arith, is)) in ap (value v) (get_or_past (take half items) n never (omega (arith, h, long)) ∙ sym (get_or_past items n never (omega (arith, h, is, small))))
 
--- past its end there is nothing in the list either
-pub half-whole : (v : ℕ → Bool) (half items : List Literal) (b : Bool) (n : ℕ) → length half ≡ n → length items ≤ 2 * n → ((k : ℕ) → k < n → value_at v half k ≡ value_at v items (bit b + 2 * k)) → (k : ℕ) → value_at v half k ≡ value_at v items (bit b + 2 * k)
-half-whole v half items b n long few each k = by (cases_lt k n)
+-- and those behind them
+high_part : (v : ℕ → Bool) (items : List Literal) (n half p : ℕ) → half ≡ min p (length items) → value_at v (drop half items) n ≡ value_at v items (n + p)
+high_part v items n half p is = ap (value v) (get_or-drop half items n never) ∙ by (cases_lt (length items) p)
   where
-    by : (k < n) ⊎ (n ≤ k) → value_at v half k ≡ value_at v items (bit b + 2 * k)
-    by (inl h) = each k h
-    by (inr h) = ap (value v) (get_or_past half k never (omega (arith, h, long)) ∙ sym (get_or_past items (bit b + 2 * k) never (omega (arith, h, few))))
+    by : (length items < p) ⊎ (p ≤ length items) → value_at v items (half + n) ≡ value_at v items (n + p)
+    by (inl h) = ap (value v) (get_or_past items (half + n) never (omega (arith, h, is)) ∙ sym (get_or_past items (n + p) never (omega (arith, h))))
+    by (inr h) = let same : half + n ≡ n + p = omega (arith, h, is) in ap (value_at v items) same
 
-spread : (n p b k : ℕ) → n + p * (b + 2 * k) ≡ (n + p * b) + (p * 2) * k
-spread n p b k = grind arith
+-- the highest place of the number says in which of them
+pub selected : (v : ℕ → Bool) → v 0 ≡ false → (items place : List Literal) (k half : ℕ) (made low high : Literal) → length place ≡ suc k → half ≡ min (2 ^ k) (length items) → value v made ≡ cond (value_at v place k) (value v high) (value v low)
+    → value v low ≡ value_at v (take half items) (number v (take k place)) → value v high ≡ value_at v (drop half items) (number v (take k place)) → value v made ≡ value_at v items (number v place)
+selected v zero_is items place k half made low high long is chosen is_low is_high = chosen ∙ rw (is_low, is_high) (by (value_at v place k)) ∙ ap (value_at v items) (sym whole)
+  where
+    n : ℕ
+    n = number v (take k place)
 
--- a place more of the number that tells where
-pub select_place : (v : ℕ → Bool) → v 0 ≡ false → (place : List Literal) (i k : ℕ) → number v (take i place) + 2 ^ i * (bit (value_at v place i) + 2 * k) ≡ number v (take (suc i) place) + 2 ^ suc i * k
-select_place v zero_is place i k = rw (number-take v zero_is place i, pow-suc 2 i) (spread (number v (take i place)) (2 ^ i) (bit (value_at v place i)) k)
+    whole : number v place ≡ n + 2 ^ k * bit (value_at v place k)
+    whole = ap (number v) (sym (take_all (suc k) place (omega (arith, long)))) ∙ number-take v zero_is place k
+
+    by : (b : Bool) → cond b (value_at v (drop half items) n) (value_at v (take half items) n) ≡ value_at v items (n + 2 ^ k * bit b)
+    by true = let same : n + 2 ^ k ≡ n + 2 ^ k * 1 = omega arith in high_part v items n half (2 ^ k) is ∙ ap (value_at v items) same
+    by false = let same : n ≡ n + 2 ^ k * 0 = omega arith in low_part v items n half (2 ^ k) (number-take-lt v place k) is ∙ ap (value_at v items) same

@@ -1,11 +1,21 @@
 -- One place more of what words are made of.
-use Rattle.std.proofs.Common.{◌≡◌, ℕ, suc, ◌+◌, ◌-◌, ◌*◌, ◌/◌, ◌%◌, ◌^◌, ◌<◌, ◌≤◌, Bool, true, false, not, ◌||◌, cond, List, [], ◌∷◌, ◌++◌, length, take, get_or, refl, sym, ◌∙◌, ap, arith, pow-suc}
+use Rattle.std.proofs.Common.{◌≡◌, ℕ, suc, ◌+◌, ◌-◌, ◌*◌, ◌/◌, ◌%◌, ◌^◌, ◌<◌, ◌≤◌, Bool, true, false, not, ◌||◌, cond, List, [], ◌∷◌, ◌++◌, length, take, set, get_or, add-one, refl, sym, ◌∙◌, ap, arith, pow-suc}
 use Rattle.std.proofs.lemmas.Nat.{pow_pos, mod_low}
+use Rattle.std.proofs.lemmas.Grind.{take-set_at}
+use Rattle.std.proofs.lemmas.List.{length-take-le}
 use Rattle.can_gates.specs.declared.literal.Literal.{Literal}
 use Rattle.can_gates.specs.Circuit.{value}
 use Rattle.can_gates.specs.Words.{number, bit}
 use Rattle.can_gates.proofs.Constants.{never}
 use Rattle.can_gates.proofs.WordNumbers.{number-push, number-take, number-lt}
+
+-- a word with one place written
+
+pub set_place : (word : List Literal) (i : ℕ) (l : Literal) → i < length word → take (suc i) (set word i l) ≡ take i word ++ l ∷ []
+set_place word i l within = take-set_at word i (suc i) l (sym (add-one i)) within
+
+pub taken : (word : List Literal) (i : ℕ) → i < length word → length (take i word) ≡ i
+taken word i within = length-take-le i word (omega (arith, within))
 
 -- a constant: what is left of the number, divided
 

@@ -15,14 +15,14 @@
 //! | `circuit.rt` | [`Circuit`], its [`Gate`]s, and the and of two literals, which has a gate only where it needs one | `specs/Circuit.antt`, `specs/Runs.antt`, `specs/Ordered.antt` |
 //! | `chains.rt` | where gates stand, by the signal of their left side | |
 //! | `choices.rt` | or, exclusive or, and a choice between two literals | `specs/Circuit.antt` |
-//! | `words.rt` | numbers as lists of literals, the lowest place first: constants, choices, complements | `specs/Words.antt` |
-//! | `sums.rt` | [`Sum`], sums and differences, with a carry or up to the least and the greatest number | `specs/Words.antt` |
+//! | `words.rt` | numbers as arrays of literals, the lowest place first: constants and choices | `specs/Words.antt` |
+//! | `sums.rt` | sums and differences, with a carry or up to the least and the greatest number | `specs/Words.antt` |
 //! | `orders.rt` | which of two numbers is less, and whether they are equal | `specs/Words.antt` |
 //! | `select.rt` | the literal at a place that a number tells | `specs/Words.antt` |
 //! | `aiger.rt` | [`Register`], and the text of a circuit with registers and outputs in AIGER's ascii format; lines of numbers | `specs/Aiger.antt` |
 //!
-//! Words may be of any two lengths: past its end a word has [`FALSE`]. An `Err` says that there was no memory for a word.
-//! Behind it a circuit may have gates that nothing names.
+//! What makes a word has words of one length, and takes no memory but for gates. What compares and selects has words of any
+//! two: past its end a word has [`FALSE`].
 //!
 //! A gate that would be made again is found in the chain of its left side's signal. What a chain tells is looked at before it is
 //! used, so the laws need nothing of it; that equal gates are made once is tested (tests/rows).
@@ -41,5 +41,4 @@ mod words;
 pub use aiger::{Register, lines_are_read_back, push_aiger, push_line, push_number};
 pub use circuit::{Circuit, Gate};
 pub use literal::{FALSE, Literal, TRUE};
-pub use sums::Sum;
-pub use words::{complement, constant, literal_at};
+pub use words::{constant, literal_at};

@@ -1,49 +1,40 @@
-//! The literal at a place that a word tells.
-ghost use Rattle.std.specs.Prelude.{◌≡◌, ◌+◌, ◌*◌, ℕ, Bool, slice_index_or, IfOk};
+//! The literal at the place that a word tells.
+ghost use Rattle.std.specs.Prelude.{◌≡◌, ◌≤◌, ◌^◌, ℕ, Bool, min, slice_index_or};
 ghost use Rattle.can_gates.specs.Circuit.{value, Makes};
-ghost use Rattle.can_gates.specs.Words.{number, bit};
+ghost use Rattle.can_gates.specs.Words.{number};
 
 use crate::circuit::Circuit;
 use crate::literal::{FALSE, Literal};
-use crate::words::literal_at;
-use std::alloc::{AllocError, Global};
 
 impl Circuit {
     /// The literal at the place that a number tells, never true past the end.
-    pub fn select(
-        &mut self,
-        alloc: Global,
-        items: &[Literal],
-        place: &[Literal],
-    ) -> Result<Literal, AllocError>
-        ensures { IfOk result (λ r. Makes self.old self.new (λ v. value v r ≡ value v (slice_index_or items.now (number v place.now) FALSE))) }
+    pub fn select(&mut self, items: &[Literal], place: &[Literal]) -> Literal
+        ensures { Makes self.old self.new (λ v. value v result ≡ value v (slice_index_or items.now (number v place.now) FALSE)) }
     {
-        let mut left = Vec::from_slice(alloc, items)?;
-        for odd in place {
-            let half = self.halved(alloc, &left, *odd)?;
-            left = half;
+        if items.len() == 0 {
+            return FALSE;
         }
-        let only = literal_at(&left, 0);
-        Ok(only)
+        if place.len() == 0 {
+            return items[0];
+        }
+        let highest = place.len() - 1;
+        let rest = &place[..highest];
+        let half = power_within(highest, items.len());
+        let low = self.select(&items[..half], rest);
+        let high = self.select(&items[half..], rest);
+        self.ite(place[highest], high, low)
     }
+}
 
-    /// Every second literal: those of odd places where the test holds, else those of even places.
-    fn halved(
-        &mut self,
-        alloc: Global,
-        items: &[Literal],
-        odd: Literal,
-    ) -> Result<Vec<Literal>, AllocError>
-        ensures { IfOk result (λ r. Makes self.old self.new (λ v. (k : ℕ) → value v (slice_index_or r.items k FALSE) ≡ value v (slice_index_or items.now (bit (value v odd) + 2 * k) FALSE))) }
-    {
-        let pairs = items.len() - items.len() / 2;
-        let mut half = Vec::new(alloc);
-        for pair in 0..pairs {
-            let even_one = literal_at(items, 2 * pair);
-            let odd_one = literal_at(items, 2 * pair + 1);
-            let level = self.ite(odd, odd_one, even_one);
-            half.push(level)?;
-        }
-        Ok(half)
+/// How many bits a length has.
+const BITS: usize = 64;
+
+/// Two, so often multiplied, or a bound below that.
+fn power_within(times: usize, bound: usize) -> usize
+    ensures { result ≡ min (2 ^ times) bound }
+{
+    if times >= BITS {
+        return bound;
     }
+    (1 << times).min(bound)
 }

@@ -1,11 +1,10 @@
-//! Numbers as words: lists of literals, the lowest place first.
-ghost use Rattle.std.specs.Prelude.{◌≡◌, ◌+◌, ◌*◌, ◌%◌, ◌-◌, ◌^◌, ℕ, Bool, false, if◌then◌else◌, max, length, slice_index_or, IfOk};
+//! Numbers as words: literals, the lowest place first.
+ghost use Rattle.std.specs.Prelude.{◌≡◌, ◌+◌, ◌*◌, ◌%◌, ◌-◌, ◌^◌, ℕ, Bool, false, if◌then◌else◌, length, slice_index_or};
 ghost use Rattle.can_gates.specs.Circuit.{value, Makes};
 ghost use Rattle.can_gates.specs.Words.{number, bit};
 
 use crate::circuit::Circuit;
 use crate::literal::{FALSE, Literal, TRUE};
-use std::alloc::{AllocError, Global};
 
 /// The literal at a place of a word, [`FALSE`] past its end.
 pub fn literal_at(word: &[Literal], place: usize) -> Literal
@@ -15,16 +14,16 @@ pub fn literal_at(word: &[Literal], place: usize) -> Literal
 }
 
 /// The lowest so many places of a number.
-pub fn constant(alloc: Global, of: u64, places: usize) -> Result<Vec<Literal>, AllocError>
-    ensures { IfOk result (λ r. (length r.items ≡ places) × ((v : ℕ → Bool) → v 0 ≡ false → number v r.items ≡ of % 2 ^ places)) }
+pub fn constant<const N: usize>(of: u64) -> [Literal; N]
+    ensures { (v : ℕ → Bool) → v 0 ≡ false → number v result ≡ of % 2 ^ N }
 {
-    let mut word = Vec::new(alloc);
+    let mut word = [FALSE; N];
     let mut rest = of;
-    for place in 0..places {
-        word.push(lowest(rest))?;
+    for place in 0..N {
+        word[place] = lowest(rest);
         rest /= 2;
     }
-    Ok(word)
+    word
 }
 
 /// The lowest place of a number.
@@ -35,55 +34,47 @@ fn lowest(of: u64) -> Literal
     if of % 2 == 1 { TRUE } else { FALSE }
 }
 
-/// The opposite literal at each place, of which there are at least so many: all ones less the number.
-pub fn complement(alloc: Global, word: &[Literal], least: usize) -> Result<Vec<Literal>, AllocError>
-    ensures { IfOk result (λ r. (length r.items ≡ max (length word.now) least) × ((v : ℕ → Bool) → v 0 ≡ false → number v r.items + number v word.now + 1 ≡ 2 ^ length r.items)) }
+/// The opposite literal at each place: all ones less the number.
+pub(crate) fn complement<const N: usize>(word: &[Literal; N]) -> [Literal; N]
+    ensures places { length result ≡ N }
+    ensures number { (v : ℕ → Bool) → v 0 ≡ false → number v result + number v word.now + 1 ≡ 2 ^ N }
 {
-    let places = word.len().max(least);
-    let mut all = Vec::new(alloc);
-    for place in 0..places {
-        let level = literal_at(word, place).opposite();
-        all.push(level)?;
+    let mut all = [FALSE; N];
+    for place in 0..N {
+        all[place] = word[place].opposite();
     }
-    Ok(all)
+    all
 }
 
 impl Circuit {
     /// The one word where the test holds, else the other one.
-    pub fn choose(
+    pub fn choose<const N: usize>(
         &mut self,
-        alloc: Global,
         test: Literal,
-        a: &[Literal],
-        b: &[Literal],
-    ) -> Result<Vec<Literal>, AllocError>
-        ensures { IfOk result (λ r. (length r.items ≡ max (length a.now) (length b.now)) × Makes self.old self.new (λ v. number v r.items ≡ (if value v test then number v a.now else number v b.now))) }
+        a: &[Literal; N],
+        b: &[Literal; N],
+    ) -> [Literal; N]
+        ensures { Makes self.old self.new (λ v. number v result ≡ (if value v test then number v a.now else number v b.now)) }
     {
-        let places = a.len().max(b.len());
-        let mut all = Vec::new(alloc);
-        for place in 0..places {
-            let left = literal_at(a, place);
-            let right = literal_at(b, place);
-            let level = self.ite(test, left, right);
-            all.push(level)?;
+        let mut all = [FALSE; N];
+        for place in 0..N {
+            all[place] = self.ite(test, a[place], b[place]);
         }
-        Ok(all)
+        all
     }
 
     /// The word, or where it runs over all ones.
-    pub fn or_all(
+    pub(crate) fn or_all<const N: usize>(
         &mut self,
-        alloc: Global,
-        word: &[Literal],
+        word: &[Literal; N],
         over: Literal,
-    ) -> Result<Vec<Literal>, AllocError>
-        ensures { IfOk result (λ r. (length r.items ≡ length word.now) × Makes self.old self.new (λ v. number v r.items ≡ (if value v over then 2 ^ length word.now - 1 else number v word.now))) }
+    ) -> [Literal; N]
+        ensures { Makes self.old self.new (λ v. number v result ≡ (if value v over then 2 ^ N - 1 else number v word.now)) }
     {
-        let mut all = Vec::new(alloc);
-        for place in word {
-            let level = self.or(*place, over);
-            all.push(level)?;
+        let mut all = [FALSE; N];
+        for place in 0..N {
+            all[place] = self.or(word[place], over);
         }
-        Ok(all)
+        all
     }
 }

@@ -100,8 +100,8 @@ nibble-lt v n = number-lt v (n.ones ∷ n.twos ∷ n.fours ∷ n.eights ∷ [])
 pub frame_in-is : (v : ℕ → Bool) (k : Fields) → IsFrame (frame_in v k)
 unfolding frame_in
 frame_in-is v k = record {
-  id = identifier-lt v k.identifier.items (value v k.extended);
+  id = identifier-lt v k.identifier (value v k.extended);
   dlc = nibble-lt v k.dlc;
-  count = length-bytes_in v (byte_count (value v k.remote) (nibble v k.dlc)) k.bytes.items;
-  small = bytes_in-small v (byte_count (value v k.remote) (nibble v k.dlc)) k.bytes.items;
+  count = length-bytes_in v (byte_count (value v k.remote) (nibble v k.dlc)) k.bytes;
+  small = bytes_in-small v (byte_count (value v k.remote) (nibble v k.dlc)) k.bytes;
 }

@@ -20,8 +20,8 @@ abbrev standard : Parts
 standard = record { id = record { raw = 0x123; extended = false }; remote = false; dlc = 2; bytes = 0x13 ∷ 0xc4 ∷ [] }
 
 standard_fields : (k : Fields) → k.extended ≡ never → k.remote ≡ never → k.dlc ≡ record { ones = never; twos = always; fours = never; eights = never }
-    → k.identifier.items ≡ word (codes "11111111111111111100100100011")
-    → k.bytes.items ≡ word (codes "1111111111111111111111111111111111111111111111111100010000010011")
+    → k.identifier ≡ word (codes "11111111111111111100100100011")
+    → k.bytes ≡ word (codes "1111111111111111111111111111111111111111111111111100010000010011")
     → frame_in low k ≡ standard
 unfolding frame_in nibble value
 standard_fields k extended remote dlc identifier bytes = rw (extended, remote, dlc, identifier, bytes) refl
@@ -31,8 +31,8 @@ abbrev extended_remote : Parts
 extended_remote = record { id = record { raw = 0x12345678; extended = true }; remote = true; dlc = 9; bytes = [] }
 
 extended_fields : (k : Fields) → k.extended ≡ always → k.remote ≡ always → k.dlc ≡ record { ones = always; twos = never; fours = never; eights = always }
-    → k.identifier.items ≡ word (codes "10010001101000101011001111000")
-    → k.bytes.items ≡ []
+    → k.identifier ≡ word (codes "10010001101000101011001111000")
+    → k.bytes ≡ []
     → HoldsFields low k extended_remote
 unfolding frame_in nibble value
 extended_fields k extended remote dlc identifier bytes = record {

@@ -1,8 +1,8 @@
 -- One more level of a front.
-use Rattle.std.proofs.Common.{cond, ◌≡◌, ℕ, ◌+◌, ◌-◌, ◌*◌, ◌<◌, ◌≤◌, ◌⊎◌, inl, inr, min, Bool, true, false, not, ◌&&◌, ◌||◌, List, [], ◌∷◌, ◌++◌, length, get_or, refl, sym, ◌∙◌, ap, arith, length-append}
+use Rattle.std.proofs.Common.{cond, ◌≡◌, ℕ, ◌+◌, ◌-◌, ◌*◌, ◌<◌, ◌≤◌, ◌⊎◌, inl, inr, min, Bool, true, false, not, ◌&&◌, ◌||◌, List, [], ◌∷◌, ◌++◌, length, get_or, set, refl, sym, ◌∙◌, ap, arith, length-append}
 use Rattle.std.proofs.Math.Dec.{eqb}
 use Rattle.std.proofs.lemmas.Bool.{cases_lt, cases_eq, ne_eqb, eq-eqb, cond-true, cond-false, cond_both, eqb-false}
-use Rattle.std.proofs.lemmas.List.{get_or_past, get_or_append_left, get_or_push}
+use Rattle.std.proofs.lemmas.List.{get_or_past, get_or-set_same, get_or-set_other}
 use Rattle.can_frame.specs.declared.level.Level.{Level}
 use Rattle.can_frame.specs.declared.level.Level.TheVariants.{Dominant}
 use Rattle.can_frame.specs.Levels.{is_recessive, same}
@@ -73,13 +73,12 @@ heard_unstuffed front x true at = ap (λ (f : FrontParts). f.unstuffed) (sym (co
 heard_unstuffed front x false at = ap (λ (f : FrontParts). f.unstuffed) (sym (cond-false (eqb front.run 5) (due front x) (plain front x) at))
 
 -- a place more of a list that is written
-pub written_place : (v : ℕ → Bool) (f : ℕ → Bool) (all more : List Literal) (l : Literal) (i p : ℕ) → more ≡ all ++ l ∷ [] → length all ≡ i → value v l ≡ f i → ((q : ℕ) → q < i → value v (get_or all q never) ≡ f q) → p < i + 1 → value v (get_or more p never) ≡ f p
-written_place v f all more l i p e long is before h = by (cases_eq p i)
+pub written_place : (v : ℕ → Bool) (f : ℕ → Bool) (all : List Literal) (l : Literal) (i p : ℕ) → i < length all → value v l ≡ f i → ((q : ℕ) → q < i → value v (get_or all q never) ≡ f q) → p < i + 1 → value v (get_or (set all i l) p never) ≡ f p
+written_place v f all l i p within is before h = by (cases_eq p i)
   where
-    by : (p ≡ i) ⊎ (p ≡ i → ⊥) → value v (get_or more p never) ≡ f p
-    by (inl d) = rw (d, e) (ap (value v) (get_or_push all l never i long) ∙ is)
-    by (inr d) =
-        let lower : p < i = omega (arith, h, d) in rw e (ap (value v) (get_or_append_left all (l ∷ []) never p (omega (arith, lower, long))) ∙ before p lower)
+    by : (p ≡ i) ⊎ (p ≡ i → ⊥) → value v (get_or (set all i l) p never) ≡ f p
+    by (inl d) = rw d (ap (value v) (get_or-set_same all i l never within) ∙ is)
+    by (inr d) = ap (value v) (get_or-set_other all i p l never d) ∙ before p (omega (arith, h, d))
 
 after_short : (b : Bool) (n : ℕ) → (n ≡ 5 → ⊥) → n ≤ 5 → cond b (n + 1) 1 ≤ 5
 after_short true n other few = omega (arith, other, few)

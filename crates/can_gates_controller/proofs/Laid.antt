@@ -113,21 +113,21 @@ module _ (v : ℕ → Bool) (zero_is : v 0 ≡ false) where
   by_format true all extended standard id remote dlc n bytes long short chosen = λ p h. chosen p h ∙ holds_of extended (head (frame_from (number v (take 29 id)) true remote dlc bytes)) n p long
   by_format false all extended standard id remote dlc n bytes long short chosen = λ p h. chosen p h ∙ holds_of standard (head (frame_from (number v (take 11 id)) false remote dlc bytes)) n p short
 
-  pub laid_is : (k : Fields) (all extended standard behind made : List Literal) → IsCleared v made k.bytes.items (byte_count (value v k.remote) (nibble v k.dlc))
+  pub laid_is : (k : Fields) (all extended standard behind made : List Literal) → IsCleared v made k.bytes (byte_count (value v k.remote) (nibble v k.dlc))
       → behind ≡ k.remote ∷ never ∷ never ∷ k.dlc.eights ∷ k.dlc.fours ∷ k.dlc.twos ∷ k.dlc.ones ∷ turned_bytes 8 made
-      → standard ≡ never ∷ (turned_word 11 k.identifier.items ++ behind)
-      → extended ≡ never ∷ (turned_word 11 (drop 18 k.identifier.items) ++ always ∷ always ∷ (turned_word 18 k.identifier.items ++ behind))
+      → standard ≡ never ∷ (turned_word 11 k.identifier ++ behind)
+      → extended ≡ never ∷ (turned_word 11 (drop 18 k.identifier) ++ always ∷ always ∷ (turned_word 18 k.identifier ++ behind))
       → ((p : ℕ) → p < 103 → value v (get_or all p never) ≡ cond (value v k.extended) (value v (get_or extended p never)) (value v (get_or standard p never)))
       → HoldsLevels v all (head (frame_in v k))
   unfolding frame_in
   laid_is k all extended standard behind made cleared behind_eq standard_eq extended_eq chosen =
-      let id = k.identifier.items in
+      let id = k.identifier in
       let remote = value v k.remote in
       let dlc = nibble v k.dlc in
       let count = byte_count remote dlc in
-      let bytes = bytes_in v count k.bytes.items in
+      let bytes = bytes_in v count k.bytes in
       let past = replicate (8 * (8 - count)) Dominant in
-      let data_is = levels_turned_bytes v zero_is 8 made ∙ cleared_levels v made k.bytes.items count cleared (byte_count_le remote dlc) in
+      let data_is = levels_turned_bytes v zero_is 8 made ∙ cleared_levels v made k.bytes count cleared (byte_count_le remote dlc) in
       let rest = ap (levels_in v) behind_eq ∙ behind_is k.remote k.dlc (turned_bytes 8 made) (flat_map (bits_of 8) bytes ++ past) data_is in
       let short = ap (levels_in v) standard_eq ∙ standard_is (turned_word 11 id) behind (number v (take 11 id)) remote dlc bytes past (levels_turned v zero_is 11 id) rest in
       let long =

@@ -46,10 +46,10 @@ placed_at (suc n) (l ∷ word) zero h = refl
 placed_at (suc n) (l ∷ word) (suc p) h = placed_at n word p (omega (arith, h))
 
 pub length-counters : (k : Counters) → length (counters_list k) ≡ 24
-length-counters k = omega (arith, length-append (placed 9 k.tec.items ++ placed 8 k.rec.items) (placed 7 k.occurrences.items), length-append (placed 9 k.tec.items) (placed 8 k.rec.items), length-placed 9 k.tec.items, length-placed 8 k.rec.items, length-placed 7 k.occurrences.items)
+length-counters k = omega (arith, length-append (placed 9 k.tec ++ placed 8 k.rec) (placed 7 k.occurrences), length-append (placed 9 k.tec) (placed 8 k.rec), length-placed 9 k.tec, length-placed 8 k.rec, length-placed 7 k.occurrences)
 
 pub length-heard : (k : Heard) → length (heard_list k) ≡ 130
-length-heard k = omega (arith, length-append (placed 103 k.levels.items ++ placed 7 k.count.items) (k.last ∷ nibble_before k.run (placed 15 k.check.items)), length-append (placed 103 k.levels.items) (placed 7 k.count.items), length-placed 103 k.levels.items, length-placed 7 k.count.items, length-placed 15 k.check.items)
+length-heard k = omega (arith, length-append (placed 103 k.levels ++ placed 7 k.count) (k.last ∷ nibble_before k.run (placed 15 k.check)), length-append (placed 103 k.levels) (placed 7 k.count), length-placed 103 k.levels, length-placed 7 k.count, length-placed 15 k.check)
 
 -- a register more
 pub pushed_at : (P : ℕ → Register → Type 0) (all more : List Register) (r : Register) (i p : ℕ) → more ≡ all ++ r ∷ [] → length all ≡ i → P i r → ((q : ℕ) → q < i → P q (get_or all q (record { next = never; starts = false }))) → p < i + 1 → P p (get_or more p (record { next = never; starts = false }))
@@ -92,11 +92,11 @@ signals_of_wires phase place pending used last unacknowledged first sender e1 e2
     (signals_joined 116 4 8 (last ∷ unacknowledged ∷ first ∷ sender ∷ []) (nibble_before pending (nibble_before used [])) refl e3
     (signals_joined 120 4 4 (nibble_before pending []) (nibble_before used []) refl e4 e5)))
 
-pub signals_of_counters : (k : Counters) → AreSignals 128 9 k.tec.items → AreSignals 137 8 k.rec.items → AreSignals 145 7 k.occurrences.items → AreSignals 128 24 (counters_list k)
+pub signals_of_counters : (k : Counters) → AreSignals 128 9 k.tec → AreSignals 137 8 k.rec → AreSignals 145 7 k.occurrences → AreSignals 128 24 (counters_list k)
 signals_of_counters k tec rec occurrences =
-    signals_joined 128 17 7 (placed 9 k.tec.items ++ placed 8 k.rec.items) (placed 7 k.occurrences.items) (omega (arith, length-append (placed 9 k.tec.items) (placed 8 k.rec.items), length-placed 9 k.tec.items, length-placed 8 k.rec.items))
-    (signals_joined 128 9 8 (placed 9 k.tec.items) (placed 8 k.rec.items) (length-placed 9 k.tec.items) (signals_placed 128 9 k.tec.items tec) (signals_placed 137 8 k.rec.items rec))
-    (signals_placed 145 7 k.occurrences.items occurrences)
+    signals_joined 128 17 7 (placed 9 k.tec ++ placed 8 k.rec) (placed 7 k.occurrences) (omega (arith, length-append (placed 9 k.tec) (placed 8 k.rec), length-placed 9 k.tec, length-placed 8 k.rec))
+    (signals_joined 128 9 8 (placed 9 k.tec) (placed 8 k.rec) (length-placed 9 k.tec) (signals_placed 128 9 k.tec tec) (signals_placed 137 8 k.rec rec))
+    (signals_placed 145 7 k.occurrences occurrences)
 
 one_signal : (s : ℕ) (l : Literal) → ((v : ℕ → Bool) → value v l ≡ v s) → AreSignals s 1 (l ∷ [])
 one_signal s l e = by
@@ -136,7 +136,7 @@ pub length-registers : (k : Registers) → length (register_list k) ≡ 277
 length-registers k =
     let a = wires_list k.controller.wires in
     let b = counters_list k.controller.counters in
-    omega (arith, length-append ((a ++ b) ++ heard_list k.heard) (placed 103 k.own.items), length-append (a ++ b) (heard_list k.heard), length-append a b, length-counters k.controller.counters, length-heard k.heard, length-placed 103 k.own.items)
+    omega (arith, length-append ((a ++ b) ++ heard_list k.heard) (placed 103 k.own), length-append (a ++ b) (heard_list k.heard), length-append a b, length-counters k.controller.counters, length-heard k.heard, length-placed 103 k.own)
 
 -- Two bit times.
 
@@ -179,29 +179,29 @@ module _ (v w : ℕ → Bool) where
 
   counters_take : (a b : Counters) → TakesLevels v w 24 (counters_list a) (counters_list b) → TakesCounters v w a b
   counters_take a b t =
-      let early : length (placed 9 a.tec.items ++ placed 8 a.rec.items) ≡ 17 = omega (arith, length-append (placed 9 a.tec.items) (placed 8 a.rec.items), length-placed 9 a.tec.items, length-placed 8 a.rec.items) in
-      let late : length (placed 9 b.tec.items ++ placed 8 b.rec.items) ≡ 17 = omega (arith, length-append (placed 9 b.tec.items) (placed 8 b.rec.items), length-placed 9 b.tec.items, length-placed 8 b.rec.items) in
-      let both = front_takes 17 7 (placed 9 a.tec.items ++ placed 8 a.rec.items) (placed 7 a.occurrences.items) (placed 9 b.tec.items ++ placed 8 b.rec.items) (placed 7 b.occurrences.items) early late t in
+      let early : length (placed 9 a.tec ++ placed 8 a.rec) ≡ 17 = omega (arith, length-append (placed 9 a.tec) (placed 8 a.rec), length-placed 9 a.tec, length-placed 8 a.rec) in
+      let late : length (placed 9 b.tec ++ placed 8 b.rec) ≡ 17 = omega (arith, length-append (placed 9 b.tec) (placed 8 b.rec), length-placed 9 b.tec, length-placed 8 b.rec) in
+      let both = front_takes 17 7 (placed 9 a.tec ++ placed 8 a.rec) (placed 7 a.occurrences) (placed 9 b.tec ++ placed 8 b.rec) (placed 7 b.occurrences) early late t in
       record {
-        tec = number_takes a.tec.items b.tec.items 9 (omega (arith, a.tec.ok, a.widths.0)) (omega (arith, b.tec.ok, b.widths.0)) (placed_takes 9 a.tec.items b.tec.items (front_takes 9 8 (placed 9 a.tec.items) (placed 8 a.rec.items) (placed 9 b.tec.items) (placed 8 b.rec.items) (length-placed 9 a.tec.items) (length-placed 9 b.tec.items) both));
-        rec = number_takes a.rec.items b.rec.items 8 (omega (arith, a.rec.ok, a.widths.1)) (omega (arith, b.rec.ok, b.widths.1)) (placed_takes 8 a.rec.items b.rec.items (back_takes 9 8 (placed 9 a.tec.items) (placed 8 a.rec.items) (placed 9 b.tec.items) (placed 8 b.rec.items) (length-placed 9 a.tec.items) (length-placed 9 b.tec.items) both));
-        occurrences = number_takes a.occurrences.items b.occurrences.items 7 (omega (arith, a.occurrences.ok, a.widths.2)) (omega (arith, b.occurrences.ok, b.widths.2)) (placed_takes 7 a.occurrences.items b.occurrences.items (back_takes 17 7 (placed 9 a.tec.items ++ placed 8 a.rec.items) (placed 7 a.occurrences.items) (placed 9 b.tec.items ++ placed 8 b.rec.items) (placed 7 b.occurrences.items) early late t));
+        tec = number_takes a.tec b.tec 9 (omega (arith, a.tec.ok, a.widths.0)) (omega (arith, b.tec.ok, b.widths.0)) (placed_takes 9 a.tec b.tec (front_takes 9 8 (placed 9 a.tec) (placed 8 a.rec) (placed 9 b.tec) (placed 8 b.rec) (length-placed 9 a.tec) (length-placed 9 b.tec) both));
+        rec = number_takes a.rec b.rec 8 (omega (arith, a.rec.ok, a.widths.1)) (omega (arith, b.rec.ok, b.widths.1)) (placed_takes 8 a.rec b.rec (back_takes 9 8 (placed 9 a.tec) (placed 8 a.rec) (placed 9 b.tec) (placed 8 b.rec) (length-placed 9 a.tec) (length-placed 9 b.tec) both));
+        occurrences = number_takes a.occurrences b.occurrences 7 (omega (arith, a.occurrences.ok, a.widths.2)) (omega (arith, b.occurrences.ok, b.widths.2)) (placed_takes 7 a.occurrences b.occurrences (back_takes 17 7 (placed 9 a.tec ++ placed 8 a.rec) (placed 7 a.occurrences) (placed 9 b.tec ++ placed 8 b.rec) (placed 7 b.occurrences) early late t));
       }
 
   heard_takes : (a b : Heard) → TakesLevels v w 130 (heard_list a) (heard_list b) → TakesHeard v w a b
   heard_takes a b t =
-      let early : length (placed 103 a.levels.items ++ placed 7 a.count.items) ≡ 110 = omega (arith, length-append (placed 103 a.levels.items) (placed 7 a.count.items), length-placed 103 a.levels.items, length-placed 7 a.count.items) in
-      let late : length (placed 103 b.levels.items ++ placed 7 b.count.items) ≡ 110 = omega (arith, length-append (placed 103 b.levels.items) (placed 7 b.count.items), length-placed 103 b.levels.items, length-placed 7 b.count.items) in
-      let rest_a = a.last ∷ nibble_before a.run (placed 15 a.check.items) in
-      let rest_b = b.last ∷ nibble_before b.run (placed 15 b.check.items) in
-      let first = front_takes 110 20 (placed 103 a.levels.items ++ placed 7 a.count.items) rest_a (placed 103 b.levels.items ++ placed 7 b.count.items) rest_b early late t in
-      let rest = back_takes 110 20 (placed 103 a.levels.items ++ placed 7 a.count.items) rest_a (placed 103 b.levels.items ++ placed 7 b.count.items) rest_b early late t in
+      let early : length (placed 103 a.levels ++ placed 7 a.count) ≡ 110 = omega (arith, length-append (placed 103 a.levels) (placed 7 a.count), length-placed 103 a.levels, length-placed 7 a.count) in
+      let late : length (placed 103 b.levels ++ placed 7 b.count) ≡ 110 = omega (arith, length-append (placed 103 b.levels) (placed 7 b.count), length-placed 103 b.levels, length-placed 7 b.count) in
+      let rest_a = a.last ∷ nibble_before a.run (placed 15 a.check) in
+      let rest_b = b.last ∷ nibble_before b.run (placed 15 b.check) in
+      let first = front_takes 110 20 (placed 103 a.levels ++ placed 7 a.count) rest_a (placed 103 b.levels ++ placed 7 b.count) rest_b early late t in
+      let rest = back_takes 110 20 (placed 103 a.levels ++ placed 7 a.count) rest_a (placed 103 b.levels ++ placed 7 b.count) rest_b early late t in
       record {
-        levels = placed_takes 103 a.levels.items b.levels.items (front_takes 103 7 (placed 103 a.levels.items) (placed 7 a.count.items) (placed 103 b.levels.items) (placed 7 b.count.items) (length-placed 103 a.levels.items) (length-placed 103 b.levels.items) first);
-        count = number_takes a.count.items b.count.items 7 (omega (arith, a.count.ok, a.width)) (omega (arith, b.count.ok, b.width)) (placed_takes 7 a.count.items b.count.items (back_takes 103 7 (placed 103 a.levels.items) (placed 7 a.count.items) (placed 103 b.levels.items) (placed 7 b.count.items) (length-placed 103 a.levels.items) (length-placed 103 b.levels.items) first));
+        levels = placed_takes 103 a.levels b.levels (front_takes 103 7 (placed 103 a.levels) (placed 7 a.count) (placed 103 b.levels) (placed 7 b.count) (length-placed 103 a.levels) (length-placed 103 b.levels) first);
+        count = number_takes a.count b.count 7 (omega (arith, a.count.ok, a.width)) (omega (arith, b.count.ok, b.width)) (placed_takes 7 a.count b.count (back_takes 103 7 (placed 103 a.levels) (placed 7 a.count) (placed 103 b.levels) (placed 7 b.count) (length-placed 103 a.levels) (length-placed 103 b.levels) first));
         last = rest 0 (omega arith);
         run = nibble_takes a.run b.run (rest 1 (omega arith)) (rest 2 (omega arith)) (rest 3 (omega arith)) (rest 4 (omega arith));
-        check = placed_takes 15 a.check.items b.check.items (back_takes 5 15 (a.last ∷ nibble_before a.run []) (placed 15 a.check.items) (b.last ∷ nibble_before b.run []) (placed 15 b.check.items) refl refl rest);
+        check = placed_takes 15 a.check b.check (back_takes 5 15 (a.last ∷ nibble_before a.run []) (placed 15 a.check) (b.last ∷ nibble_before b.run []) (placed 15 b.check) refl refl rest);
       }
 
   pub list_takes : (held next : Registers) → TakesLevels v w 277 (register_list held) (register_list next) → Takes v w held next
@@ -212,13 +212,13 @@ module _ (v w : ℕ → Bool) where
       let two_b : length (wires_list b.wires ++ counters_list b.counters) ≡ 44 = omega (arith, length-append (wires_list b.wires) (counters_list b.counters), length-counters b.counters) in
       let three_a : length ((wires_list a.wires ++ counters_list a.counters) ++ heard_list held.heard) ≡ 174 = omega (arith, length-append (wires_list a.wires ++ counters_list a.counters) (heard_list held.heard), two_a, length-heard held.heard) in
       let three_b : length ((wires_list b.wires ++ counters_list b.counters) ++ heard_list next.heard) ≡ 174 = omega (arith, length-append (wires_list b.wires ++ counters_list b.counters) (heard_list next.heard), two_b, length-heard next.heard) in
-      let three = front_takes 174 103 ((wires_list a.wires ++ counters_list a.counters) ++ heard_list held.heard) (placed 103 held.own.items) ((wires_list b.wires ++ counters_list b.counters) ++ heard_list next.heard) (placed 103 next.own.items) three_a three_b t in
+      let three = front_takes 174 103 ((wires_list a.wires ++ counters_list a.counters) ++ heard_list held.heard) (placed 103 held.own) ((wires_list b.wires ++ counters_list b.counters) ++ heard_list next.heard) (placed 103 next.own) three_a three_b t in
       let two = front_takes 44 130 (wires_list a.wires ++ counters_list a.counters) (heard_list held.heard) (wires_list b.wires ++ counters_list b.counters) (heard_list next.heard) two_a two_b three in
       record {
         wires = wires_take a.wires b.wires (front_takes 20 24 (wires_list a.wires) (counters_list a.counters) (wires_list b.wires) (counters_list b.counters) refl refl two);
         counters = counters_take a.counters b.counters (back_takes 20 24 (wires_list a.wires) (counters_list a.counters) (wires_list b.wires) (counters_list b.counters) refl refl two);
         heard = heard_takes held.heard next.heard (back_takes 44 130 (wires_list a.wires ++ counters_list a.counters) (heard_list held.heard) (wires_list b.wires ++ counters_list b.counters) (heard_list next.heard) two_a two_b three);
-        own = placed_takes 103 held.own.items next.own.items (back_takes 174 103 ((wires_list a.wires ++ counters_list a.counters) ++ heard_list held.heard) (placed 103 held.own.items) ((wires_list b.wires ++ counters_list b.counters) ++ heard_list next.heard) (placed 103 next.own.items) three_a three_b t);
+        own = placed_takes 103 held.own next.own (back_takes 174 103 ((wires_list a.wires ++ counters_list a.counters) ++ heard_list held.heard) (placed 103 held.own) ((wires_list b.wires ++ counters_list b.counters) ++ heard_list next.heard) (placed 103 next.own) three_a three_b t);
       }
 
 -- At reset.
@@ -270,16 +270,16 @@ module _ (v : ℕ → Bool) where
       let a = k.controller in
       let two : length (wires_list a.wires ++ counters_list a.counters) ≡ 44 = omega (arith, length-append (wires_list a.wires) (counters_list a.counters), length-counters a.counters) in
       let early : (p : ℕ) → p < 44 → value v (get_or (wires_list a.wires ++ counters_list a.counters) p never) ≡ (eqb p 0 && joins) =
-      λ p h. ap (value v) (sym (get_or_append_left (wires_list a.wires ++ counters_list a.counters) (heard_list k.heard) never p (omega (arith, h, two))) ∙ sym (get_or_append_left ((wires_list a.wires ++ counters_list a.counters) ++ heard_list k.heard) (placed 103 k.own.items) never p (omega (arith, h, two, length-append (wires_list a.wires ++ counters_list a.counters) (heard_list k.heard))))) ∙ t p (omega (arith, h)) in
+      λ p h. ap (value v) (sym (get_or_append_left (wires_list a.wires ++ counters_list a.counters) (heard_list k.heard) never p (omega (arith, h, two))) ∙ sym (get_or_append_left ((wires_list a.wires ++ counters_list a.counters) ++ heard_list k.heard) (placed 103 k.own) never p (omega (arith, h, two, length-append (wires_list a.wires ++ counters_list a.counters) (heard_list k.heard))))) ∙ t p (omega (arith, h)) in
       let counters : Clear 24 (counters_list a.counters) = back_clear 20 24 (wires_list a.wires) (counters_list a.counters) refl (λ p low h. early p h ∙ rw (ne_eqb p 0 (λ e. absurd (omega (arith, e, low)))) refl) in
       let wires : (p : ℕ) → p < 20 → value v (get_or (wires_list a.wires) p never) ≡ (eqb p 0 && joins) = λ p h. ap (value v) (sym (get_or_append_left (wires_list a.wires) (counters_list a.counters) never p h)) ∙ early p (omega (arith, h)) in
-      let sizes : length (placed 9 a.counters.tec.items ++ placed 8 a.counters.rec.items) ≡ 17 = omega (arith, length-append (placed 9 a.counters.tec.items) (placed 8 a.counters.rec.items), length-placed 9 a.counters.tec.items, length-placed 8 a.counters.rec.items) in
-      let both = front_clear 17 7 (placed 9 a.counters.tec.items ++ placed 8 a.counters.rec.items) (placed 7 a.counters.occurrences.items) sizes counters in
+      let sizes : length (placed 9 a.counters.tec ++ placed 8 a.counters.rec) ≡ 17 = omega (arith, length-append (placed 9 a.counters.tec) (placed 8 a.counters.rec), length-placed 9 a.counters.tec, length-placed 8 a.counters.rec) in
+      let both = front_clear 17 7 (placed 9 a.counters.tec ++ placed 8 a.counters.rec) (placed 7 a.counters.occurrences) sizes counters in
       record {
         wires = clear_wires a.wires joins (wires 0 (omega arith)) (λ p low h. wires p h ∙ rw (ne_eqb p 0 (λ e. absurd (omega (arith, e, low)))) refl);
-        tec = number_nothing a.counters.tec.items 9 (omega (arith, a.counters.tec.ok, a.counters.widths.0)) (placed_clear 9 a.counters.tec.items (front_clear 9 8 (placed 9 a.counters.tec.items) (placed 8 a.counters.rec.items) (length-placed 9 a.counters.tec.items) both));
-        rec = number_nothing a.counters.rec.items 8 (omega (arith, a.counters.rec.ok, a.counters.widths.1)) (placed_clear 8 a.counters.rec.items (back_clear 9 8 (placed 9 a.counters.tec.items) (placed 8 a.counters.rec.items) (length-placed 9 a.counters.tec.items) (λ p low h. both p h)));
-        occurrences = number_nothing a.counters.occurrences.items 7 (omega (arith, a.counters.occurrences.ok, a.counters.widths.2)) (placed_clear 7 a.counters.occurrences.items (back_clear 17 7 (placed 9 a.counters.tec.items ++ placed 8 a.counters.rec.items) (placed 7 a.counters.occurrences.items) sizes (λ p low h. counters p h)));
+        tec = number_nothing a.counters.tec 9 (omega (arith, a.counters.tec.ok, a.counters.widths.0)) (placed_clear 9 a.counters.tec (front_clear 9 8 (placed 9 a.counters.tec) (placed 8 a.counters.rec) (length-placed 9 a.counters.tec) both));
+        rec = number_nothing a.counters.rec 8 (omega (arith, a.counters.rec.ok, a.counters.widths.1)) (placed_clear 8 a.counters.rec (back_clear 9 8 (placed 9 a.counters.tec) (placed 8 a.counters.rec) (length-placed 9 a.counters.tec) (λ p low h. both p h)));
+        occurrences = number_nothing a.counters.occurrences 7 (omega (arith, a.counters.occurrences.ok, a.counters.widths.2)) (placed_clear 7 a.counters.occurrences (back_clear 17 7 (placed 9 a.counters.tec ++ placed 8 a.counters.rec) (placed 7 a.counters.occurrences) sizes (λ p low h. counters p h)));
       }
 
 -- What a circuit's registers do, of these.

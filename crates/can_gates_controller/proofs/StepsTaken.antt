@@ -103,8 +103,8 @@ pub recessive_from : (b : Bool) → b ≡ is_recessive (level_from b)
 recessive_from true = refl
 recessive_from false = refl
 
-pub offers_is : (v : ℕ → Bool) (k : Offered) (b : Bool) (f : Parts) → value v k.waits ≡ b → IsFrame f → HoldsLevels v k.levels.items (head f) → Offers v k (cond b (Some f) None)
-offers_is v k true f e is levels = record { frame = is; waits = e; levels = λ g same. let P : Parts → Type 0 = λ h. HoldsLevels v k.levels.items (head h) in subst P (same_frame f g same) levels }
+pub offers_is : (v : ℕ → Bool) (k : Offered) (b : Bool) (f : Parts) → value v k.waits ≡ b → IsFrame f → HoldsLevels v k.levels (head f) → Offers v k (cond b (Some f) None)
+offers_is v k true f e is levels = record { frame = is; waits = e; levels = λ g same. let P : Parts → Type 0 = λ h. HoldsLevels v k.levels (head h) in subst P (same_frame f g same) levels }
   where
     or_this : Option Parts → Parts
     or_this None = f

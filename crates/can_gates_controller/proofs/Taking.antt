@@ -20,30 +20,30 @@ abbrev pub held_numbers : Numbers → Numbers
 held_numbers n = record n { cause = 0; event = 0 }
 
 pub record TakesCounters (before now : ℕ → Bool) (held next : Counters) : Type 0 where
-  pub tec : number now held.tec.items ≡ number before next.tec.items
-  pub rec : number now held.rec.items ≡ number before next.rec.items
-  pub occurrences : number now held.occurrences.items ≡ number before next.occurrences.items
+  pub tec : number now held.tec ≡ number before next.tec
+  pub rec : number now held.rec ≡ number before next.rec
+  pub occurrences : number now held.occurrences ≡ number before next.occurrences
 
 pub record TakesHeard (before now : ℕ → Bool) (held next : Heard) : Type 0 where
-  pub levels : TakesLevels before now 103 held.levels.items next.levels.items
-  pub count : number now held.count.items ≡ number before next.count.items
+  pub levels : TakesLevels before now 103 held.levels next.levels
+  pub count : number now held.count ≡ number before next.count
   pub last : value now held.last ≡ value before next.last
   pub run : nibble now held.run ≡ nibble before next.run
-  pub check : TakesLevels before now 15 held.check.items next.check.items
+  pub check : TakesLevels before now 15 held.check next.check
 
 -- the registers are now what these literals were before
 pub record Takes (before now : ℕ → Bool) (held next : Registers) : Type 0 where
   pub wires : held_numbers (shown now held.controller.wires) ≡ held_numbers (shown before next.controller.wires)
   pub counters : TakesCounters before now held.controller.counters next.controller.counters
   pub heard : TakesHeard before now held.heard next.heard
-  pub own : TakesLevels before now 103 held.own.items next.own.items
+  pub own : TakesLevels before now 103 held.own next.own
 
 -- all registers of the controller are 0, but for the lowest place of its phase where it joins; those of frames may be any
 pub record IsReset (v : ℕ → Bool) (k : Registers) (joins : Bool) : Type 0 where
   pub wires : held_numbers (shown v k.controller.wires) ≡ reset_numbers (cond joins 1 0)
-  pub tec : number v k.controller.counters.tec.items ≡ 0
-  pub rec : number v k.controller.counters.rec.items ≡ 0
-  pub occurrences : number v k.controller.counters.occurrences.items ≡ 0
+  pub tec : number v k.controller.counters.tec ≡ 0
+  pub rec : number v k.controller.counters.rec ≡ 0
+  pub occurrences : number v k.controller.counters.occurrences ≡ 0
 
 controller_takes : (v w : ℕ → Bool) (held next : Controller) (m : MacState) → held_numbers (shown w held.wires) ≡ held_numbers (shown v next.wires) → TakesCounters v w held.counters next.counters → Holds v next m → Holds w held m
 unfolding shown

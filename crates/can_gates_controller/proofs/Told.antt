@@ -111,47 +111,47 @@ module _ (v : ℕ → Bool) (zero_is : v 0 ≡ false) where
       bytes_turned v zero_is n 8 (drop 7 behind) few ∙ bytes_from_same n (levels_in v (drop 7 behind)) (drop 7 w) (λ p h. levels_behind v zero_is behind w 7 p (held (7 + p) (omega (arith, h, few))))
 
   -- all fields
-  pub fields_told : (k : Fields) (levels behind word : List Literal) (u : List Level) → HoldsLevels v levels u → k.extended ≡ get_or levels 13 never → length k.identifier.items ≡ 29
-      → number v k.identifier.items ≡ cond (value v k.extended) (number v (turned_word 18 (drop 14 levels) ++ turned_word 11 (drop 1 levels))) (number v (turned_word 11 (drop 1 levels)))
+  pub fields_told : (k : Fields) (levels behind word : List Literal) (u : List Level) → HoldsLevels v levels u → k.extended ≡ get_or levels 13 never → length k.identifier ≡ 29
+      → number v k.identifier ≡ cond (value v k.extended) (number v (turned_word 18 (drop 14 levels) ++ turned_word 11 (drop 1 levels))) (number v (turned_word 11 (drop 1 levels)))
       → ((p : ℕ) → p < 71 → value v (get_or behind p never) ≡ cond (value v k.extended) (value v (get_or (drop 32 levels) p never)) (value v (get_or (drop 12 levels) p never)))
       → k.remote ≡ get_or behind 0 never → k.dlc.ones ≡ get_or behind 6 never → k.dlc.twos ≡ get_or behind 5 never → k.dlc.fours ≡ get_or behind 4 never → k.dlc.eights ≡ get_or behind 3 never
-      → word ≡ turned_bytes 8 (drop 7 behind) → IsCleared v k.bytes.items word (byte_count (value v k.remote) (nibble v k.dlc)) → HoldsFields v k (frame_of u)
+      → word ≡ turned_bytes 8 (drop 7 behind) → IsCleared v k.bytes word (byte_count (value v k.remote) (nibble v k.dlc)) → HoldsFields v k (frame_of u)
   unfolding frame_in frame_of parts
   fields_told k levels behind word u held format long identifier chosen is_remote ones twos fours eights word_is cleared =
       let e = extended_of u in
       let place = rtr_place e in
       let w = from_rtr u in
       let extended : value v k.extended ≡ e = ap (value v) format ∙ held 13 (omega arith) in
-      let id = identifier_told levels k.identifier.items u e held long (rw extended at identifier) in
+      let id = identifier_told levels k.identifier u e held long (rw extended at identifier) in
       let at = behind_told levels behind u e held (rw extended at chosen) in
       let first : level_at w 0 ≡ level_at u place = let same : place + 0 ≡ place = omega arith in get_or-drop place u 0 Dominant ∙ ap (level_at u) same in
       let remote : value v k.remote ≡ remote_of u = ap (value v) is_remote ∙ at 0 (omega arith) ∙ ap is_recessive first in
       let dlc : nibble v k.dlc ≡ dlc_of u = dlc_told behind w at k.dlc ones twos fours eights ∙ ap (λ t. number_from 0 (filled 4 t)) (drop-drop 3 place u) in
       let count : byte_count (value v k.remote) (nibble v k.dlc) ≡ byte_count (remote_of u) (dlc_of u) = rw (remote, dlc) refl in
       let n = byte_count (remote_of u) (dlc_of u) in
-      let clear : IsCleared v k.bytes.items word n = rw count at cleared in
-      let bytes : bytes_in v n k.bytes.items ≡ bytes_from n (drop (data_place e) u) = clear.bytes ∙ ap (bytes_in v n) word_is ∙ bytes_told behind w at n (byte_count_le (remote_of u) (dlc_of u)) ∙ ap (bytes_from n) (drop-drop 7 place u) in
+      let clear : IsCleared v k.bytes word n = rw count at cleared in
+      let bytes : bytes_in v n k.bytes ≡ bytes_from n (drop (data_place e) u) = clear.bytes ∙ ap (bytes_in v n) word_is ∙ bytes_told behind w at n (byte_count_le (remote_of u) (dlc_of u)) ∙ ap (bytes_from n) (drop-drop 7 place u) in
       let counted : length (bytes_from n (drop (data_place e) u)) ≡ n = length-bytes_from n (drop (data_place e) u) in
       record {
-        frame = same_parts (number v (take (identifier_places (value v k.extended)) k.identifier.items)) (number_from 0 (identifier_of u)) (value v k.extended) e (value v k.remote) (remote_of u) (nibble v k.dlc) (dlc_of u) (bytes_in v (byte_count (value v k.remote) (nibble v k.dlc)) k.bytes.items) (bytes_from n (drop (data_place e) u))
-            (ap (λ b. number v (take (identifier_places b) k.identifier.items)) extended ∙ id.0) extended remote dlc (ap (λ m. bytes_in v m k.bytes.items) count ∙ bytes);
+        frame = same_parts (number v (take (identifier_places (value v k.extended)) k.identifier)) (number_from 0 (identifier_of u)) (value v k.extended) e (value v k.remote) (remote_of u) (nibble v k.dlc) (dlc_of u) (bytes_in v (byte_count (value v k.remote) (nibble v k.dlc)) k.bytes) (bytes_from n (drop (data_place e) u))
+            (ap (λ b. number v (take (identifier_places b) k.identifier)) extended ∙ id.0) extended remote dlc (ap (λ m. bytes_in v m k.bytes) count ∙ bytes);
         identifier = id.1;
-        bytes = ap (λ m. number v (drop (8 * m) k.bytes.items)) counted ∙ clear.behind;
+        bytes = ap (λ m. number v (drop (8 * m) k.bytes)) counted ∙ clear.behind;
       }
 
 -- The frame that is told.
 
 module _ (v : ℕ → Bool) (k : Registers) (m : MacState) (levels : List Literal) where
-  of_sender : (t : Bool) (f : Parts) → t ≡ is_sender (Sender f) → HoldsLevels v k.own.items (head f) → ((p : ℕ) → p < 103 → value v (get_or levels p never) ≡ cond t (value v (get_or k.own.items p never)) (value v (get_or k.heard.levels.items p never))) → HoldsLevels v levels (head f)
+  of_sender : (t : Bool) (f : Parts) → t ≡ is_sender (Sender f) → HoldsLevels v k.own (head f) → ((p : ℕ) → p < 103 → value v (get_or levels p never) ≡ cond t (value v (get_or k.own p never)) (value v (get_or k.heard.levels p never))) → HoldsLevels v levels (head f)
   of_sender true f e held chosen = λ p h. chosen p h ∙ held p h
   of_sender false f e held chosen = cc e
 
-  of_receiver : (t : Bool) (u : List Level) → t ≡ is_sender Receiver → HoldsLevels v k.heard.levels.items u → ((p : ℕ) → p < 103 → value v (get_or levels p never) ≡ cond t (value v (get_or k.own.items p never)) (value v (get_or k.heard.levels.items p never))) → HoldsLevels v levels u
+  of_receiver : (t : Bool) (u : List Level) → t ≡ is_sender Receiver → HoldsLevels v k.heard.levels u → ((p : ℕ) → p < 103 → value v (get_or levels p never) ≡ cond t (value v (get_or k.own p never)) (value v (get_or k.heard.levels p never))) → HoldsLevels v levels u
   of_receiver true u e held chosen = cc e
   of_receiver false u e held chosen = λ p h. chosen p h ∙ held p h
 
   -- its levels are those of the sender's registers, or of the receiver's
-  pub told_levels : (e : Option Event) (f : Parts) → HoldsAll v k m → IsEventIn m.phase m.role e → frame_told e ≡ Some f → ((p : ℕ) → p < 103 → value v (get_or levels p never) ≡ cond (value v k.controller.wires.sender) (value v (get_or k.own.items p never)) (value v (get_or k.heard.levels.items p never))) → (u : List Level) × ((frame_of u ≡ f) × HoldsLevels v levels u)
+  pub told_levels : (e : Option Event) (f : Parts) → HoldsAll v k m → IsEventIn m.phase m.role e → frame_told e ≡ Some f → ((p : ℕ) → p < 103 → value v (get_or levels p never) ≡ cond (value v k.controller.wires.sender) (value v (get_or k.own p never)) (value v (get_or k.heard.levels p never))) → (u : List Level) × ((frame_of u ≡ f) × HoldsLevels v levels u)
   told_levels None f held told e chosen = cc e
   told_levels (Some (Sent g)) f held told e chosen =
       let same : g ≡ f = cc e in

@@ -21,17 +21,17 @@ bytes_in v (suc n) word = number v (take 8 word) ∷ bytes_in v n (drop 8 word)
 -- the frame that fields are, whatever their values. What stands behind its identifier, or behind its last byte, isn't looked at
 unfoldable pub frame_in : (ℕ → Bool) → Fields → Parts
 frame_in v k = record {
-  id = record { raw = number v (take (identifier_places (value v k.extended)) k.identifier.items); extended = value v k.extended };
+  id = record { raw = number v (take (identifier_places (value v k.extended)) k.identifier); extended = value v k.extended };
   remote = value v k.remote;
   dlc = nibble v k.dlc;
-  bytes = bytes_in v (byte_count (value v k.remote) (nibble v k.dlc)) k.bytes.items;
+  bytes = bytes_in v (byte_count (value v k.remote) (nibble v k.dlc)) k.bytes;
 }
 
 -- the fields are those of this frame, and 0 behind its identifier and behind its last byte
 pub record HoldsFields (v : ℕ → Bool) (k : Fields) (f : Parts) : Type 0 where
   pub frame : frame_in v k ≡ f
-  pub identifier : number v (drop (identifier_places f.id.extended) k.identifier.items) ≡ 0
-  pub bytes : number v (drop (8 * length f.bytes) k.bytes.items) ≡ 0
+  pub identifier : number v (drop (identifier_places f.id.extended) k.identifier) ≡ 0
+  pub bytes : number v (drop (8 * length f.bytes) k.bytes) ≡ 0
 
 -- the frame of an event
 abbrev pub frame_told : Option Event → Option Parts

@@ -92,8 +92,8 @@ pub record ShowsWithin (v : ℕ → Bool) (k : Within) (p : MacPhase) : Type 0 w
 
 -- the one front's registers, or the other's
 pub record IsEither (v : ℕ → Bool) (k : Heard) (test : Bool) (a b : Heard) : Type 0 where
-  pub levels : (p : ℕ) → p < 103 → value v (slice_index_or k.levels.items p (record { signal = 0; negated = false })) ≡ (if test then value v (slice_index_or a.levels.items p (record { signal = 0; negated = false })) else value v (slice_index_or b.levels.items p (record { signal = 0; negated = false })))
-  pub count : number v k.count.items ≡ (if test then number v a.count.items else number v b.count.items)
+  pub levels : (p : ℕ) → p < 103 → value v (slice_index_or k.levels p (record { signal = 0; negated = false })) ≡ (if test then value v (slice_index_or a.levels p (record { signal = 0; negated = false })) else value v (slice_index_or b.levels p (record { signal = 0; negated = false })))
+  pub count : number v k.count ≡ (if test then number v a.count else number v b.count)
   pub last : value v k.last ≡ (if test then value v a.last else value v b.last)
   pub run : nibble v k.run ≡ (if test then nibble v a.run else nibble v b.run)
-  pub check : (p : ℕ) → p < 15 → value v (slice_index_or k.check.items p (record { signal = 0; negated = false })) ≡ (if test then value v (slice_index_or a.check.items p (record { signal = 0; negated = false })) else value v (slice_index_or b.check.items p (record { signal = 0; negated = false })))
+  pub check : (p : ℕ) → p < 15 → value v (slice_index_or k.check p (record { signal = 0; negated = false })) ≡ (if test then value v (slice_index_or a.check p (record { signal = 0; negated = false })) else value v (slice_index_or b.check p (record { signal = 0; negated = false })))

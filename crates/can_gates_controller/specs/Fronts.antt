@@ -25,10 +25,10 @@ abbrev pub HoldsCheck : (ℕ → Bool) → List Literal → List Level → Type 
 HoldsCheck v check u = (p : ℕ) → p < 15 → value v (slice_index_or check p (record { signal = 0; negated = false })) ≡ is_recessive (level_at (crc_of u) p)
 
 pub record HoldsFront (v : ℕ → Bool) (k : Heard) (front : FrontParts) : Type 0 where
-  pub levels : HoldsLevels v k.levels.items front.unstuffed
-  pub count : number v k.count.items ≡ length front.unstuffed
+  pub levels : HoldsLevels v k.levels front.unstuffed
+  pub count : number v k.count ≡ length front.unstuffed
   pub run : HoldsRun v k.last k.run front
-  pub check : HoldsCheck v k.check.items front.unstuffed
+  pub check : HoldsCheck v k.check front.unstuffed
 
 -- the front with one more level, whether that is a stuff bit, and whether it repeats the last one
 pub record HearsFront (v : ℕ → Bool) (k : Heard) (s : StuffPlace) (front : FrontParts) (x : Level) : Type 0 where

@@ -40,9 +40,9 @@ pub record HoldsTold (v : ℕ → Bool) (k : Heard) (r : Reading) : Type 0 where
   pub unstuffed : List Level
   pub whole : length unstuffed ≡ frame_len unstuffed
   pub told : r ≡ reading_of unstuffed
-  pub levels : HoldsLevels v k.levels.items unstuffed
-  pub count : number v k.count.items ≡ length unstuffed
-  pub check : HoldsCheck v k.check.items unstuffed
+  pub levels : HoldsLevels v k.levels unstuffed
+  pub count : number v k.count ≡ length unstuffed
+  pub check : HoldsCheck v k.check unstuffed
 
 -- in a frame the registers hold what is heard of it: its front, and behind the stuffed part what that has told
 pub record HoldsHeard (v : ℕ → Bool) (k : Heard) (p : MacPhase) : Type 0 where

@@ -25,23 +25,23 @@ abbrev pub wires_list : Wires → List Literal
 wires_list w = nibble_before w.phase (nibble_before w.place (w.last ∷ w.unacknowledged ∷ w.first ∷ w.sender ∷ nibble_before w.pending (nibble_before w.used [])))
 
 abbrev pub counters_list : Counters → List Literal
-counters_list k = (placed 9 k.tec.items ++ placed 8 k.rec.items) ++ placed 7 k.occurrences.items
+counters_list k = (placed 9 k.tec ++ placed 8 k.rec) ++ placed 7 k.occurrences
 
 abbrev pub heard_list : Heard → List Literal
-heard_list k = (placed 103 k.levels.items ++ placed 7 k.count.items) ++ (k.last ∷ nibble_before k.run (placed 15 k.check.items))
+heard_list k = (placed 103 k.levels ++ placed 7 k.count) ++ (k.last ∷ nibble_before k.run (placed 15 k.check))
 
 -- the controller, its counters, what is heard, and the sender's frame
 abbrev pub register_list : Registers → List Literal
-register_list k = ((wires_list k.controller.wires ++ counters_list k.controller.counters) ++ heard_list k.heard) ++ placed 103 k.own.items
+register_list k = ((wires_list k.controller.wires ++ counters_list k.controller.counters) ++ heard_list k.heard) ++ placed 103 k.own
 
 abbrev pub field_list : Fields → List Literal
-field_list k = k.extended ∷ k.remote ∷ (placed 29 k.identifier.items ++ nibble_before k.dlc (placed 64 k.bytes.items))
+field_list k = k.extended ∷ k.remote ∷ (placed 29 k.identifier ++ nibble_before k.dlc (placed 64 k.bytes))
 
 abbrev pub input_list : InputPorts → List Literal
 input_list k = k.reset ∷ k.joins ∷ k.enable ∷ k.bus ∷ k.hold ∷ k.wish_ones ∷ k.wish_twos ∷ k.waits ∷ field_list k.frame
 
 abbrev pub output_list : OutputPorts → List Literal
-output_list k = ((((k.drive ∷ nibble_before k.told []) ++ field_list k.frame) ++ placed 9 k.tec.items) ++ placed 8 k.rec.items) ++ (k.passive ∷ k.off ∷ k.legal ∷ [])
+output_list k = ((((k.drive ∷ nibble_before k.told []) ++ field_list k.frame) ++ placed 9 k.tec) ++ placed 8 k.rec) ++ (k.passive ∷ k.off ∷ k.legal ∷ [])
 
 -- so many literals are the signals from this one on
 abbrev pub AreSignals : ℕ → ℕ → List Literal → Type 0

@@ -35,8 +35,8 @@ pub record Shows (v : ℕ → Bool) (k : OutputPorts) (m : MacState) (s : Contro
   pub drive : value v k.drive ≡ is_recessive (mac_drives m s.waiting)
   pub told : nibble v k.told ≡ event_number (told_in m s)
   pub frame : (f : Parts) → frame_told (told_in m s) ≡ Some f → HoldsFields v k.frame f
-  pub tec : number v k.tec.items ≡ m.counters.tec
-  pub rec : number v k.rec.items ≡ m.counters.rec
+  pub tec : number v k.tec ≡ m.counters.tec
+  pub rec : number v k.rec ≡ m.counters.rec
   pub passive : value v k.passive ≡ is_passive m.counters
   pub off : value v k.off ≡ is_bus_off m.counters
   pub legal : value v k.legal ≡ true

@@ -44,18 +44,18 @@ pub record HoldsAll (v : ℕ → Bool) (k : Registers) (m : MacState) : Type 0 w
   pub settled : IsSettled m.phase m.role
   pub controller : Holds v k.controller m
   pub heard : HoldsHeard v k.heard m.phase
-  pub own : HoldsOwn v k.own.items m.phase m.role
+  pub own : HoldsOwn v k.own m.phase m.role
 
 -- this frame waits, where one does
 pub record Offers (v : ℕ → Bool) (k : Offered) (waiting : Option Parts) : Type 0 where
   pub frame : IsFrameOrNone waiting
   pub waits : value v k.waits ≡ is_waiting waiting
-  pub levels : (f : Parts) → waiting ≡ Some f → HoldsLevels v k.levels.items (head f)
+  pub levels : (f : Parts) → waiting ≡ Some f → HoldsLevels v k.levels (head f)
 
 -- the frame that is told is the one that registers hold: its sender's, or what was heard
 pub record TellsFrame (v : ℕ → Bool) (k : Registers) (told : Option Event) : Type 0 where
-  pub sent : (f : Parts) → told ≡ Some (Sent f) → HoldsLevels v k.own.items (head f)
-  pub received : (f : Parts) → told ≡ Some (Received f) → (u : List Level) × ((f ≡ frame_of u) × HoldsLevels v k.heard.levels.items u)
+  pub sent : (f : Parts) → told ≡ Some (Sent f) → HoldsLevels v k.own (head f)
+  pub received : (f : Parts) → told ≡ Some (Received f) → (u : List Level) × ((f ≡ frame_of u) × HoldsLevels v k.heard.levels u)
 
 -- what a controller in these registers makes of a bit time in which this frame waits and this level is seen
 pub record IsBitTime (v : ℕ → Bool) (k : BitTime) (held : Registers) (m : MacState) (waiting : Option Parts) (x : Level) : Type 0 where

@@ -1,5 +1,5 @@
 //! The running check sequence: that of the levels heard so far. (Bosch CAN 2.0 part B, section 3.2.1)
-ghost use Rattle.std.specs.Prelude.{◌≡◌, ◌+◌, ◌<◌, ◌≤◌, ◌&&◌, ◌++◌, ◌∷◌, [], ℕ, Bool, false, if◌then◌else◌, List, IfOk, length};
+ghost use Rattle.std.specs.Prelude.{◌≡◌, ◌+◌, ◌<◌, ◌≤◌, ◌&&◌, ◌++◌, ◌∷◌, [], ℕ, Bool, false, if◌then◌else◌, List, length};
 ghost use Rattle.can_frame.specs.declared.level.Level.{Level};
 ghost use Rattle.can_frame.specs.Levels.{is_recessive};
 ghost use Rattle.can_wire.specs.Crc.{lower_terms, crc_of};
@@ -9,8 +9,7 @@ ghost use Rattle.can_gates.specs.Circuit.{value, Makes, differ};
 ghost use Rattle.can_gates_controller.specs.Fronts.{HoldsCheck};
 
 use crate::levels::choose_levels;
-use can_gates::{Circuit, FALSE, Literal, literal_at};
-use std::alloc::{AllocError, Global};
+use can_gates::{Circuit, FALSE, Literal};
 
 /// How many places a check sequence has.
 pub(crate) const PLACES: usize = 15;
@@ -22,62 +21,48 @@ const TERMS: [bool; 15] = [
 ];
 
 /// The check sequence of the same levels and one more.
-fn divide(
-    circuit: &mut Circuit,
-    alloc: Global,
-    check: &[Literal],
-    level: Literal,
-) -> Result<Vec<Literal>, AllocError>
-    ensures { IfOk result (λ r. Makes circuit.old circuit.new (λ v. (u : List Level) (x : Level) → HoldsCheck v check.now u → value v level ≡ is_recessive x → HoldsCheck v r.items (u ++ x ∷ []))) }
+fn divide(circuit: &mut Circuit, check: &[Literal; 15], level: Literal) -> [Literal; 15]
+    ensures { Makes circuit.old circuit.new (λ v. (u : List Level) (x : Level) → HoldsCheck v check.now u → value v level ≡ is_recessive x → HoldsCheck v result (u ++ x ∷ [])) }
 {
-    let fed = circuit.xor(literal_at(check, 0), level);
-    let made = divided(circuit, alloc, check, fed)?;
-    Ok(made)
+    let fed = circuit.xor(check[0], level);
+    divided(circuit, check, fed)
 }
 
 /// The same, or where the level isn't one of the unstuffed ones what it was.
 pub(crate) fn next_check(
     circuit: &mut Circuit,
-    alloc: Global,
-    check: &[Literal],
+    check: &[Literal; 15],
     plain: Literal,
     level: Literal,
-) -> Result<Vec<Literal>, AllocError>
-    ensures { IfOk result (λ r. Makes circuit.old circuit.new (λ v. (u : List Level) (x : Level) → HoldsCheck v check.now u → value v level ≡ is_recessive x → HoldsCheck v r.items (if value v plain then u ++ x ∷ [] else u))) }
+) -> [Literal; 15]
+    ensures { Makes circuit.old circuit.new (λ v. (u : List Level) (x : Level) → HoldsCheck v check.now u → value v level ≡ is_recessive x → HoldsCheck v result (if value v plain then u ++ x ∷ [] else u)) }
 {
-    let more = divide(circuit, alloc, check, level)?;
-    let made = choose_levels(circuit, alloc, PLACES, plain, &more, check)?;
-    Ok(made)
+    let more = divide(circuit, check, level);
+    choose_levels(circuit, plain, &more, check)
 }
 
 /// The check sequence of the same levels and one more, where the level and the highest place differ or are equal.
-fn divided(
-    circuit: &mut Circuit,
-    alloc: Global,
-    check: &[Literal],
-    fed: Literal,
-) -> Result<Vec<Literal>, AllocError>
-    ensures { IfOk result (λ r. Makes circuit.old circuit.new (λ v. (u : List Level) (x : Level) → HoldsCheck v check.now u → value v fed ≡ differ (is_recessive (level_at (crc_of u) 0)) (is_recessive x) → HoldsCheck v r.items (u ++ x ∷ []))) }
+fn divided(circuit: &mut Circuit, check: &[Literal; 15], fed: Literal) -> [Literal; 15]
+    ensures { Makes circuit.old circuit.new (λ v. (u : List Level) (x : Level) → HoldsCheck v check.now u → value v fed ≡ differ (is_recessive (level_at (crc_of u) 0)) (is_recessive x) → HoldsCheck v result (u ++ x ∷ [])) }
 {
-    let mut all = Vec::new(alloc);
+    let mut all = [FALSE; PLACES];
     for place in 0..PLACES {
         let moved = next_place(check, place);
         let term = term_of(fed, place);
-        let level = circuit.xor(moved, term);
-        all.push(level)?;
+        all[place] = circuit.xor(moved, term);
     }
-    Ok(all)
+    all
 }
 
 /// The place below, which past the lowest one is dominant.
-fn next_place(check: &[Literal], place: usize) -> Literal
+fn next_place(check: &[Literal; 15], place: usize) -> Literal
     requires { place < 15 }
     ensures { (v : ℕ → Bool) (u : List Level) → v 0 ≡ false → HoldsCheck v check.now u → value v result ≡ is_recessive (level_at (crc_of u) (place + 1)) }
 {
     if place == 14 {
         return FALSE;
     }
-    literal_at(check, place + 1)
+    check[place + 1]
 }
 
 /// What is added at a place.
@@ -92,13 +77,12 @@ fn term_of(fed: Literal, place: usize) -> Literal
 }
 
 /// Whether levels that have their whole check sequence agree with it: nothing is left of them.
-pub(crate) fn agrees(circuit: &mut Circuit, check: &[Literal]) -> Literal
+pub(crate) fn agrees(circuit: &mut Circuit, check: &[Literal; 15]) -> Literal
     ensures { Makes circuit.old circuit.new (λ v. (u : List Level) → 15 ≤ length u → HoldsCheck v check.now u → value v result ≡ check_agrees u) }
 {
     let mut some = FALSE;
     for place in 0..PLACES {
-        let level = literal_at(check, place);
-        some = circuit.or(some, level);
+        some = circuit.or(some, check[place]);
     }
     some.opposite()
 }

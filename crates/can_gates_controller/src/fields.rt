@@ -1,14 +1,13 @@
 //! A frame by its fields. (Bosch CAN 2.0 part B, section 3.2.1)
-ghost use Rattle.std.specs.Prelude.{◌≡◌, ◌<◌, ℕ, Bool, nat_lt, IfOk};
+ghost use Rattle.std.specs.Prelude.{◌≡◌, ◌<◌, ℕ, Bool, nat_lt};
 ghost use Rattle.can_frame.specs.Parts.{IsFrame, byte_count};
 ghost use Rattle.can_gates.specs.Circuit.{value, Makes};
 ghost use Rattle.can_gates_mac.specs.Nibbles.{nibble};
 ghost use Rattle.can_gates_controller.specs.Fields.{frame_in};
 ghost use Rattle.can_gates_controller.specs.Laying.{IsCleared};
 
-use can_gates::{Circuit, Literal, literal_at};
+use can_gates::{Circuit, FALSE, Literal, literal_at};
 use can_gates_mac::Nibble;
-use std::alloc::{AllocError, Global};
 
 /// How many bits a standard identifier has, and how many of an extended one stand before its SRR bit.
 pub(crate) const UPPER_BITS: usize = 11;
@@ -20,18 +19,18 @@ pub(crate) const LOWER_BITS: usize = 18;
 const PLACES: usize = 64;
 
 /// A frame by its fields.
-#[derive(Drop)]
+#[derive(Clone, Copy)]
 pub struct Fields {
     /// Whether its identifier is one of 29 bits.
     pub extended: Literal,
     /// Whether it is a remote frame.
     pub remote: Literal,
-    /// The identifier, of 29 places, the lowest first. A standard one has the lowest eleven.
-    pub identifier: Vec<Literal>,
+    /// The identifier, the lowest place first. A standard one has the lowest eleven.
+    pub identifier: [Literal; 29],
     /// The data length code.
     pub dlc: Nibble,
-    /// The data, of 64 places: byte k has those from 8 k on, the lowest first.
-    pub bytes: Vec<Literal>,
+    /// The data: byte k has those from 8 k on, the lowest first.
+    pub bytes: [Literal; 64],
 }
 
 impl Fields {
@@ -46,20 +45,18 @@ impl Fields {
 /// The data of a frame with this RTR bit and data length code, and 0 behind its last byte.
 pub(crate) fn clear_behind(
     circuit: &mut Circuit,
-    alloc: Global,
     remote: Literal,
     dlc: Nibble,
     bytes: &[Literal],
-) -> Result<Vec<Literal>, AllocError>
-    ensures { IfOk result (λ r. Makes circuit.old circuit.new (λ v. IsCleared v r.items bytes.now (byte_count (value v remote) (nibble v dlc)))) }
+) -> [Literal; 64]
+    ensures { Makes circuit.old circuit.new (λ v. IsCleared v result bytes.now (byte_count (value v remote) (nibble v dlc))) }
 {
-    let mut all = Vec::new(alloc);
+    let mut all = [FALSE; PLACES];
     for place in 0..PLACES {
         let counts = has_byte(circuit, remote, dlc, place / 8);
-        let bit = circuit.and(counts, literal_at(bytes, place));
-        all.push(bit)?;
+        all[place] = circuit.and(counts, literal_at(bytes, place));
     }
-    Ok(all)
+    all
 }
 
 /// Whether a frame has the byte of this number, of which the first is byte 0.

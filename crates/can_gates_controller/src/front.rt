@@ -1,6 +1,6 @@
 //! The front of a frame as it is heard: a register for each place of its unstuffed levels. (Bosch CAN 2.0 part B,
 //! sections 3.2.1 and 6)
-ghost use Rattle.std.specs.Prelude.{◌≡◌, ◌<◌, ◌≤◌, ◌==◌, ◌&&◌, ◌||◌, ℕ, Bool, List, IfOk, length, slice_index_or};
+ghost use Rattle.std.specs.Prelude.{◌≡◌, ◌<◌, ◌≤◌, ◌==◌, ◌&&◌, ◌||◌, ℕ, Bool, List, length, slice_index_or};
 ghost use Rattle.can_frame.specs.declared.level.Level.{Level};
 ghost use Rattle.can_frame.specs.Levels.{is_recessive};
 ghost use Rattle.can_wire.specs.Layout.{frame_len};
@@ -14,12 +14,11 @@ ghost use Rattle.can_gates_mac.specs.Inputs.{ReadsPart};
 
 use crate::check::next_check;
 use crate::heard::Heard;
-use can_gates::{Circuit, FALSE, Literal, constant, literal_at};
+use can_gates::{Circuit, FALSE, Literal, constant};
 use can_gates_mac::{Part, StuffPlace, arbitrates, stuffing};
-use std::alloc::{AllocError, Global};
 
 /// How many places have a register: up to the last level of the data of the longest frame. The check sequence has none.
-const PLACES: u64 = 103;
+const PLACES: usize = 103;
 
 /// How many unstuffed levels a standard frame without data has, its check sequence among them.
 const STANDARD_LENGTH: u64 = 34;
@@ -28,20 +27,15 @@ const STANDARD_LENGTH: u64 = 34;
 const EXTENDED_LENGTH: u64 = 54;
 
 /// The front with one more level, and what the level is to the run before it.
-pub fn hear(
-    circuit: &mut Circuit,
-    alloc: Global,
-    heard: &Heard,
-    seen: Literal,
-) -> Result<(Heard, StuffPlace), AllocError>
-    ensures { IfOk result (λ r. Makes circuit.old circuit.new (λ v. (front : FrontParts) (x : Level) → HoldsFront v heard.now front → front.run ≤ 5 → length front.unstuffed < 127 → value v seen ≡ is_recessive x → HearsFront v r.0 r.1 front x)) }
+pub fn hear(circuit: &mut Circuit, heard: &Heard, seen: Literal) -> (Heard, StuffPlace)
+    ensures { Makes circuit.old circuit.new (λ v. (front : FrontParts) (x : Level) → HoldsFront v heard.now front → front.run ≤ 5 → length front.unstuffed < 127 → value v seen ≡ is_recessive x → HearsFront v result.0 result.1 front x) }
 {
     let stuffing = stuffing(circuit, heard.last, heard.run, seen);
     let plain = stuffing.due.opposite();
     let level = circuit.and(plain, seen);
-    let levels = written(circuit, alloc, &heard.levels, &heard.count, level)?;
-    let count = circuit.raised(alloc, &heard.count, &[plain])?;
-    let check = next_check(circuit, alloc, &heard.check, plain, seen)?;
+    let levels = written(circuit, &heard.levels, &heard.count, level);
+    let count = circuit.raised(&heard.count, &[plain]);
+    let check = next_check(circuit, &heard.check, plain, seen);
     let next = Heard {
         levels,
         count,
@@ -49,45 +43,42 @@ pub fn hear(
         run: stuffing.run,
         check,
     };
-    Ok((next, stuffing))
+    (next, stuffing)
 }
 
 /// The levels, with one more at the place of this number.
 fn written(
     circuit: &mut Circuit,
-    alloc: Global,
-    levels: &[Literal],
-    count: &[Literal],
+    levels: &[Literal; 103],
+    count: &[Literal; 7],
     level: Literal,
-) -> Result<Vec<Literal>, AllocError>
-    ensures { IfOk result (λ r. Makes circuit.old circuit.new (λ v. (p : ℕ) → p < 103 → value v (slice_index_or r.items p FALSE) ≡ (value v (slice_index_or levels.now p FALSE) || ((number v count.now == p) && value v level)))) }
+) -> [Literal; 103]
+    ensures { Makes circuit.old circuit.new (λ v. (p : ℕ) → p < 103 → value v (slice_index_or result p FALSE) ≡ (value v (slice_index_or levels.now p FALSE) || ((number v count.now == p) && value v level))) }
 {
-    let mut all = Vec::new(alloc);
+    let mut all = [FALSE; PLACES];
     for place in 0..PLACES {
-        let number = constant(alloc, place, 7)?;
+        let number = constant::<7>(place as u64);
         let here = circuit.equals(count, &number);
         let new = circuit.and(here, level);
-        let both = circuit.or(literal_at(levels, place as usize), new);
-        all.push(both)?;
+        all[place] = circuit.or(levels[place], new);
     }
-    Ok(all)
+    all
 }
 
 /// What the stuffed part's move reads, and the front behind the level that is seen: by the front, whether the next level of
 /// the sender's frame is recessive, and whether that frame is extended.
 pub fn read(
     circuit: &mut Circuit,
-    alloc: Global,
     heard: &Heard,
     seen: Literal,
     sent: Literal,
     extended: Literal,
-) -> Result<(Heard, Part), AllocError>
-    ensures { IfOk result (λ r. Makes circuit.old circuit.new (λ v. (role : Role) (front : FrontParts) (x : Level) → HoldsFront v heard.now front → front.run ≤ 5 → length front.unstuffed < 127 → value v seen ≡ is_recessive x → TellsSender v sent extended role front → HoldsFront v r.0 (heard_level front x) × ReadsPart v r.1 role front x)) }
+) -> (Heard, Part)
+    ensures { Makes circuit.old circuit.new (λ v. (role : Role) (front : FrontParts) (x : Level) → HoldsFront v heard.now front → front.run ≤ 5 → length front.unstuffed < 127 → value v seen ≡ is_recessive x → TellsSender v sent extended role front → HoldsFront v result.0 (heard_level front x) × ReadsPart v result.1 role front x) }
 {
-    let (next, stuffing) = hear(circuit, alloc, heard, seen)?;
-    let ends = ends(circuit, alloc, &next)?;
-    let arbitrates = arbitrates(circuit, alloc, &heard.count, extended)?;
+    let (next, stuffing) = hear(circuit, heard, seen);
+    let ends = ends(circuit, &next);
+    let arbitrates = arbitrates(circuit, &heard.count, extended);
     let part = Part {
         due: stuffing.due,
         repeats: stuffing.repeats,
@@ -95,43 +86,38 @@ pub fn read(
         sent,
         ends,
     };
-    Ok((next, part))
+    (next, part)
 }
 
 /// Whether the stuffed part ends behind a front: it has its whole check sequence, and no stuff bit is due.
-pub fn ends(circuit: &mut Circuit, alloc: Global, heard: &Heard) -> Result<Literal, AllocError>
-    ensures { IfOk result (λ r. Makes circuit.old circuit.new (λ v. (front : FrontParts) → HoldsFront v heard.now front → front.run ≤ 5 → value v r ≡ ends_part front)) }
+pub fn ends(circuit: &mut Circuit, heard: &Heard) -> Literal
+    ensures { Makes circuit.old circuit.new (λ v. (front : FrontParts) → HoldsFront v heard.now front → front.run ≤ 5 → value v result ≡ ends_part front) }
 {
-    let length = frame_length(circuit, alloc, &heard.levels)?;
+    let length = frame_length(circuit, &heard.levels);
     let whole = circuit.equals(&length, &heard.count);
     let due = circuit.and(heard.run.ones, heard.run.fours);
-    let made = circuit.and(whole, due.opposite());
-    Ok(made)
+    circuit.and(whole, due.opposite())
 }
 
 /// How many unstuffed levels the frame has that begins with these.
-pub(crate) fn frame_length(
-    circuit: &mut Circuit,
-    alloc: Global,
-    levels: &[Literal],
-) -> Result<Vec<Literal>, AllocError>
-    ensures { IfOk result (λ r. Makes circuit.old circuit.new (λ v. (u : List Level) → HoldsLevels v levels.now u → number v r.items ≡ frame_len u)) }
+pub(crate) fn frame_length(circuit: &mut Circuit, levels: &[Literal; 103]) -> [Literal; 7]
+    ensures { Makes circuit.old circuit.new (λ v. (u : List Level) → HoldsLevels v levels.now u → number v result ≡ frame_len u) }
 {
-    let extended = literal_at(levels, 13);
-    let remote = circuit.ite(extended, literal_at(levels, 32), literal_at(levels, 12));
-    let eights = circuit.ite(extended, literal_at(levels, 35), literal_at(levels, 15));
-    let fours = circuit.ite(extended, literal_at(levels, 36), literal_at(levels, 16));
-    let twos = circuit.ite(extended, literal_at(levels, 37), literal_at(levels, 17));
-    let ones = circuit.ite(extended, literal_at(levels, 38), literal_at(levels, 18));
+    let extended = levels[13];
+    let remote = circuit.ite(extended, levels[32], levels[12]);
+    let eights = circuit.ite(extended, levels[35], levels[15]);
+    let fours = circuit.ite(extended, levels[36], levels[16]);
+    let twos = circuit.ite(extended, levels[37], levels[17]);
+    let ones = circuit.ite(extended, levels[38], levels[18]);
     let eight = circuit.and(remote.opposite(), eights);
     let few = circuit.and(remote.opposite(), eights.opposite());
     let four = circuit.and(few, fours);
     let two = circuit.and(few, twos);
     let one = circuit.and(few, ones);
-    let long = constant(alloc, EXTENDED_LENGTH, 6)?;
-    let short = constant(alloc, STANDARD_LENGTH, 6)?;
-    let least = circuit.choose(alloc, extended, &long, &short)?;
+    let long = constant::<6>(EXTENDED_LENGTH);
+    let short = constant::<6>(STANDARD_LENGTH);
+    let least = circuit.choose(extended, &long, &short);
     let data = [FALSE, FALSE, FALSE, one, two, four, eight];
-    let sum = circuit.add(alloc, &data, &least, FALSE)?;
-    Ok(sum.word)
+    let mut carry = FALSE;
+    circuit.add(&data, &least, &mut carry)
 }

@@ -1,5 +1,5 @@
 //! A bit time of a controller and of what it hears of a frame.
-ghost use Rattle.std.specs.Prelude.{◌≡◌, ℕ, Bool, Option, IfOk};
+ghost use Rattle.std.specs.Prelude.{◌≡◌, ℕ, Bool, Option};
 ghost use Rattle.can_frame.specs.declared.level.Level.{Level};
 ghost use Rattle.can_frame.specs.Parts.{Parts};
 ghost use Rattle.can_mac.specs.State.{MacState, IsMac, IsFrameOrNone};
@@ -14,27 +14,25 @@ use crate::next_front::{follow, within};
 use crate::seen::Seen;
 use can_gates::Circuit;
 use can_gates_mac::{Controller, Inputs, step};
-use std::alloc::{AllocError, Global};
 
 /// A bit time of a controller and of what it hears of a frame: what their registers take.
 pub fn step_hearing(
     circuit: &mut Circuit,
-    alloc: Global,
     held: &Controller,
     heard: &Heard,
     seen: &Seen,
-) -> Result<(Controller, Heard), AllocError>
-    ensures { IfOk result (λ r. Makes circuit.old circuit.new (λ v. (m : MacState) (waiting : Option Parts) (x : Level) → IsMac m → IsFrameOrNone waiting → Holds v held.now m → HoldsHeard v heard.now m.phase → IsSeen v seen.now m waiting x → IsStep v r.0 (mac_step m waiting x) × HoldsHeard v r.1 (mac_step m waiting x).0.phase)) }
+) -> (Controller, Heard)
+    ensures { Makes circuit.old circuit.new (λ v. (m : MacState) (waiting : Option Parts) (x : Level) → IsMac m → IsFrameOrNone waiting → Holds v held.now m → HoldsHeard v heard.now m.phase → IsSeen v seen.now m waiting x → IsStep v result.0 (mac_step m waiting x) × HoldsHeard v result.1 (mac_step m waiting x).0.phase) }
 {
-    let within = within(circuit, alloc, held.wires.phase)?;
-    let (next, part) = read(circuit, alloc, heard, seen.seen, seen.sent, seen.extended)?;
-    let behind = follow(circuit, alloc, within, heard, &next)?;
+    let within = within(circuit, held.wires.phase);
+    let (next, part) = read(circuit, heard, seen.seen, seen.sent, seen.extended);
+    let behind = follow(circuit, within, heard, &next);
     let inputs = Inputs {
         waits: seen.waits,
         seen: seen.seen,
         agrees: seen.agrees,
         part,
     };
-    let made = step(circuit, alloc, held, &inputs)?;
-    Ok((made, behind))
+    let made = step(circuit, held, &inputs);
+    (made, behind)
 }

@@ -12,29 +12,19 @@ use crate::turning::{push_turned, push_turned_bytes};
 use can_gates::{Circuit, FALSE, Literal, TRUE};
 use std::alloc::{AllocError, Global};
 
-/// How many places a frame has up to the end of its data.
-pub(crate) const PLACES: usize = 103;
-
 /// The levels of the frame that fields are, up to the end of its data.
 pub fn levels_of(
     circuit: &mut Circuit,
     alloc: Global,
     fields: &Fields,
-) -> Result<Vec<Literal>, AllocError>
-    ensures { IfOk result (λ r. Makes circuit.old circuit.new (λ v. HoldsLevels v r.items (head (frame_in v fields.now)))) }
+) -> Result<[Literal; 103], AllocError>
+    ensures { IfOk result (λ r. Makes circuit.old circuit.new (λ v. HoldsLevels v r (head (frame_in v fields.now)))) }
 {
-    let bytes = clear_behind(circuit, alloc, fields.remote, fields.dlc, &fields.bytes)?;
+    let bytes = clear_behind(circuit, fields.remote, fields.dlc, &fields.bytes);
     let behind = behind_identifier(alloc, fields, &bytes)?;
     let standard = standard_levels(alloc, &fields.identifier, &behind)?;
     let extended = extended_levels(alloc, &fields.identifier, &behind)?;
-    let made = choose_levels(
-        circuit,
-        alloc,
-        PLACES,
-        fields.extended,
-        &extended,
-        &standard,
-    )?;
+    let made = choose_levels(circuit, fields.extended, &extended, &standard);
     Ok(made)
 }
 

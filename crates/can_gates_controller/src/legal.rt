@@ -1,5 +1,5 @@
 //! What is so of the registers in each state that a run reaches: what a solver may assume of them.
-ghost use Rattle.std.specs.Prelude.{◌≡◌, ◌≤◌, ℕ, nat_le, Bool, true, false, List, IfOk, length};
+ghost use Rattle.std.specs.Prelude.{◌≡◌, ◌≤◌, ℕ, nat_le, Bool, true, false, List, length};
 ghost use Rattle.can_frame.specs.declared.level.Level.{Level};
 ghost use Rattle.can_wire.specs.Layout.{frame_len};
 ghost use Rattle.can_code.specs.Front.{FrontParts};
@@ -18,47 +18,37 @@ use crate::front::frame_length;
 use crate::heard::Heard;
 use crate::next_front::within;
 use crate::registers::Registers;
-use can_gates::{Circuit, FALSE, Literal, TRUE, constant, literal_at};
+use can_gates::{Circuit, FALSE, Literal, TRUE, constant};
 use can_gates_mac::{Controller, Counters, Wires};
-use std::alloc::{AllocError, Global};
 
 /// How many places of a front have a register.
-const PLACES: u64 = 103;
+const PLACES: usize = 103;
 
 /// One more than the highest TEC.
 const ABOVE_TEC: u64 = 264;
 
 /// Whether the registers are within what a controller's can be.
-pub(crate) fn is_legal(
-    circuit: &mut Circuit,
-    alloc: Global,
-    held: &Registers,
-) -> Result<Literal, AllocError>
-    ensures { IfOk result (λ r. Makes circuit.old circuit.new (λ v. (m : MacState) → HoldsAll v held.now m → value v r ≡ true)) }
+pub(crate) fn is_legal(circuit: &mut Circuit, held: &Registers) -> Literal
+    ensures { Makes circuit.old circuit.new (λ v. (m : MacState) → HoldsAll v held.now m → value v result ≡ true) }
 {
     let wires = held.controller.wires;
-    let within = within(circuit, alloc, wires.phase)?;
-    let place = place_is_legal(circuit, alloc, &held.controller)?;
-    let marks = marks_are_legal(circuit, alloc, &held.controller)?;
-    let role = role_is_legal(circuit, alloc, &held.controller)?;
+    let within = within(circuit, wires.phase);
+    let place = place_is_legal(circuit, &held.controller);
+    let marks = marks_are_legal(circuit, &held.controller);
+    let role = role_is_legal(circuit, &held.controller);
     let wishes = wishes_are_legal(circuit, wires);
-    let counters = counters_are_legal(circuit, alloc, &held.controller)?;
-    let heard = heard_is_legal(circuit, alloc, within, &held.heard)?;
+    let counters = counters_are_legal(circuit, &held.controller);
+    let heard = heard_is_legal(circuit, within, &held.heard);
     let phase = circuit.and(place, marks);
     let stance = circuit.and(role, wishes);
     let on = circuit.and(phase, stance);
     let counted = circuit.and(counters, heard);
-    let made = circuit.and(on, counted);
-    Ok(made)
+    circuit.and(on, counted)
 }
 
 /// Whether the place is one of the phase.
-fn place_is_legal(
-    circuit: &mut Circuit,
-    alloc: Global,
-    held: &Controller,
-) -> Result<Literal, AllocError>
-    ensures { IfOk result (λ r. Makes circuit.old circuit.new (λ v. (m : MacState) → IsMac m → Holds v held.now m → value v r ≡ true)) }
+fn place_is_legal(circuit: &mut Circuit, held: &Controller) -> Literal
+    ensures { Makes circuit.old circuit.new (λ v. (m : MacState) → IsMac m → Holds v held.now m → value v result ≡ true) }
 {
     let place = held.wires.place;
     let first = place.less(circuit, 1);
@@ -75,18 +65,13 @@ fn place_is_legal(
     ];
     let phase = held.wires.phase;
     let number = [phase.ones, phase.twos, phase.fours, phase.eights];
-    let made = circuit.select(alloc, &items, &number)?;
-    Ok(made)
+    circuit.select(&items, &number)
 }
 
 /// Whether what one phase alone has is 0 in the others: the last level and what isn't acknowledged but in a passive error flag,
 /// the first level behind an error flag but behind a flag.
-fn marks_are_legal(
-    circuit: &mut Circuit,
-    alloc: Global,
-    held: &Controller,
-) -> Result<Literal, AllocError>
-    ensures { IfOk result (λ r. Makes circuit.old circuit.new (λ v. (m : MacState) → Holds v held.now m → value v r ≡ true)) }
+fn marks_are_legal(circuit: &mut Circuit, held: &Controller) -> Literal
+    ensures { Makes circuit.old circuit.new (λ v. (m : MacState) → Holds v held.now m → value v result ≡ true) }
 {
     let wires = held.wires;
     let no_flag = circuit.and(wires.last.opposite(), wires.unacknowledged.opposite());
@@ -99,18 +84,13 @@ fn marks_are_legal(
     ];
     let phase = wires.phase;
     let number = [phase.ones, phase.twos, phase.fours, phase.eights];
-    let made = circuit.select(alloc, &items, &number)?;
-    Ok(made)
+    circuit.select(&items, &number)
 }
 
 /// Whether no one is a sender who is idle, joining or off the bus, and no dominant level stands before the first one behind an error
 /// flag.
-fn role_is_legal(
-    circuit: &mut Circuit,
-    alloc: Global,
-    held: &Controller,
-) -> Result<Literal, AllocError>
-    ensures { IfOk result (λ r. Makes circuit.old circuit.new (λ v. (m : MacState) → IsSettled m.phase m.role → Holds v held.now m → value v r ≡ true)) }
+fn role_is_legal(circuit: &mut Circuit, held: &Controller) -> Literal
+    ensures { Makes circuit.old circuit.new (λ v. (m : MacState) → IsSettled m.phase m.role → Holds v held.now m → value v result ≡ true) }
 {
     let wires = held.wires;
     let receives = wires.sender.opposite();
@@ -123,8 +103,7 @@ fn role_is_legal(
     ];
     let phase = wires.phase;
     let place = [phase.ones, phase.twos, phase.fours, phase.eights];
-    let made = circuit.select(alloc, &items, &place)?;
-    Ok(made)
+    circuit.select(&items, &place)
 }
 
 /// Whether at most two own overload frames are asked for, and were used.
@@ -138,12 +117,8 @@ fn wishes_are_legal(circuit: &mut Circuit, wires: Wires) -> Literal
 
 /// Whether TEC is in its range, is at least 256 exactly off the bus, and only there occurrences of eleven recessive levels
 /// are counted.
-fn counters_are_legal(
-    circuit: &mut Circuit,
-    alloc: Global,
-    held: &Controller,
-) -> Result<Literal, AllocError>
-    ensures { IfOk result (λ r. Makes circuit.old circuit.new (λ v. (m : MacState) → IsMac m → Holds v held.now m → value v r ≡ true)) }
+fn counters_are_legal(circuit: &mut Circuit, held: &Controller) -> Literal
+    ensures { Makes circuit.old circuit.new (λ v. (m : MacState) → IsMac m → Holds v held.now m → value v result ≡ true) }
 {
     let phase = held.wires.phase;
     let place = [phase.ones, phase.twos, phase.fours, phase.eights];
@@ -151,36 +126,29 @@ fn counters_are_legal(
         FALSE, FALSE, FALSE, FALSE, FALSE, FALSE, FALSE, FALSE, FALSE, FALSE, FALSE, FALSE, FALSE,
         FALSE, TRUE,
     ];
-    let rests = circuit.select(alloc, &items, &place)?;
+    let rests = circuit.select(&items, &place);
     let off = is_off(&held.counters);
-    let most = constant(alloc, ABOVE_TEC, 9)?;
+    let most = constant::<9>(ABOVE_TEC);
     let small = circuit.less(&held.counters.tec, &most);
     let differs = circuit.xor(off, rests);
     let some = circuit.less(&[FALSE], &held.counters.occurrences);
     let counts = circuit.or(off, some.opposite());
     let fits = circuit.and(small, differs.opposite());
-    let made = circuit.and(fits, counts);
-    Ok(made)
+    circuit.and(fits, counts)
 }
 
 /// Whether what is heard of a frame fits: in its stuffed part a front that goes on, behind that a whole one.
-fn heard_is_legal(
-    circuit: &mut Circuit,
-    alloc: Global,
-    within: Within,
-    heard: &Heard,
-) -> Result<Literal, AllocError>
-    ensures { IfOk result (λ r. Makes circuit.old circuit.new (λ v. (p : MacPhase) → IsPhase p → ShowsWithin v within p → HoldsHeard v heard.now p → value v r ≡ true)) }
+fn heard_is_legal(circuit: &mut Circuit, within: Within, heard: &Heard) -> Literal
+    ensures { Makes circuit.old circuit.new (λ v. (p : MacPhase) → IsPhase p → ShowsWithin v within p → HoldsHeard v heard.now p → value v result ≡ true) }
 {
-    let length = frame_length(circuit, alloc, &heard.levels)?;
+    let length = frame_length(circuit, &heard.levels);
     let whole = circuit.equals(&length, &heard.count);
     let going = going_is_legal(circuit, heard, &length);
-    let levels = levels_are_legal(circuit, alloc, heard)?;
+    let levels = levels_are_legal(circuit, heard);
     let part = circuit.and(going, levels);
     let end = circuit.and(whole, levels);
     let behind = circuit.ite(within.end, end, TRUE);
-    let made = circuit.ite(within.part, part, behind);
-    Ok(made)
+    circuit.ite(within.part, part, behind)
 }
 
 /// Whether the front of a frame that has so many levels goes on: it has at least one level and at most these, a run of one to
@@ -202,29 +170,24 @@ fn going_is_legal(circuit: &mut Circuit, heard: &Heard, length: &[Literal]) -> L
 }
 
 /// Whether no level is recessive that isn't heard yet.
-fn levels_are_legal(
-    circuit: &mut Circuit,
-    alloc: Global,
-    heard: &Heard,
-) -> Result<Literal, AllocError>
-    ensures { IfOk result (λ r. Makes circuit.old circuit.new (λ v. (u : List Level) → HoldsLevels v heard.now.levels.items u → number v heard.now.count.items ≡ length u → value v r ≡ true)) }
+fn levels_are_legal(circuit: &mut Circuit, heard: &Heard) -> Literal
+    ensures { Makes circuit.old circuit.new (λ v. (u : List Level) → HoldsLevels v heard.now.levels u → number v heard.now.count ≡ length u → value v result ≡ true) }
 {
     let mut legal = TRUE;
     let mut behind = FALSE;
     for place in 0..PLACES {
-        let number = constant(alloc, place, 7)?;
+        let number = constant::<7>(place as u64);
         let here = circuit.equals(&heard.count, &number);
         behind = circuit.or(behind, here);
-        let level = literal_at(&heard.levels, place as usize);
-        let wrong = circuit.and(behind, level);
+        let wrong = circuit.and(behind, heard.levels[place]);
         legal = circuit.and(legal, wrong.opposite());
     }
-    Ok(legal)
+    legal
 }
 
 /// Whether a controller with these counters is bus off.
 pub(crate) fn is_off(counters: &Counters) -> Literal
-    ensures { (v : ℕ → Bool) → v 0 ≡ false → value v result ≡ nat_le 256 (number v counters.now.tec.items) }
+    ensures { (v : ℕ → Bool) → v 0 ≡ false → value v result ≡ nat_le 256 (number v counters.now.tec) }
 {
-    literal_at(&counters.tec, 8)
+    counters.tec[8]
 }

@@ -20,8 +20,8 @@ pub fn controller_circuit(alloc: Global) -> Result<Design, AllocError>
     ensures ports { IfOk result (λ d. HasPorts d) }
 {
     let mut circuit = Circuit::new(alloc, INPUTS);
-    let inputs = input_ports(alloc)?;
-    let held = registers(alloc)?;
+    let inputs = input_ports();
+    let held = registers();
     let (next, outputs) = step(&mut circuit, alloc, &held, &inputs)?;
     if !circuit.is_complete() {
         return Err(AllocError);

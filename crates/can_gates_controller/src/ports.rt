@@ -4,7 +4,7 @@ use can_gates::Literal;
 use can_gates_mac::Nibble;
 
 /// What comes in.
-#[derive(Drop)]
+#[derive(Clone, Copy)]
 pub struct InputPorts {
     /// Whether the registers take an idle controller, or one that joins, whatever else comes in.
     pub reset: Literal,
@@ -27,7 +27,7 @@ pub struct InputPorts {
 }
 
 /// What goes out.
-#[derive(Drop)]
+#[derive(Clone, Copy)]
 pub struct OutputPorts {
     /// Whether the controller drives recessive.
     pub drive: Literal,
@@ -35,10 +35,10 @@ pub struct OutputPorts {
     pub told: Nibble,
     /// The frame that it tells, where it tells of one.
     pub frame: Fields,
-    /// TEC, of nine places.
-    pub tec: Vec<Literal>,
-    /// REC, of eight places.
-    pub rec: Vec<Literal>,
+    /// TEC.
+    pub tec: [Literal; 9],
+    /// REC.
+    pub rec: [Literal; 8],
     /// Whether one of them is at least 128.
     pub passive: Literal,
     /// Whether the controller is bus off.

@@ -4,27 +4,27 @@ use can_gates::Literal;
 use can_gates_mac::Controller;
 
 /// A controller with the frame on the bus.
-#[derive(Drop)]
+#[derive(Clone, Copy)]
 pub struct Registers {
     /// The controller but for its frames, with what a bit time has counted and told.
     pub controller: Controller,
     /// What is heard of a frame.
     pub heard: Heard,
     /// Whether each level of the sender's frame is recessive, up to the end of its data.
-    pub own: Vec<Literal>,
+    pub own: [Literal; 103],
 }
 
 /// A frame that waits.
-#[derive(Drop)]
+#[derive(Clone, Copy)]
 pub struct Offered {
     /// Whether one waits.
     pub waits: Literal,
     /// Whether each of its levels is recessive, up to the end of its data.
-    pub levels: Vec<Literal>,
+    pub levels: [Literal; 103],
 }
 
 /// What a bit time makes.
-#[derive(Drop)]
+#[derive(Clone, Copy)]
 pub struct BitTime {
     /// What the registers take.
     pub next: Registers,

@@ -1,5 +1,5 @@
 //! The frame of a sender: what is sent next, and which frame is held. (Bosch CAN 2.0 part B, section 3.2.1)
-ghost use Rattle.std.specs.Prelude.{◌≡◌, ◌<◌, ℕ, Bool, List, IfOk, length, take};
+ghost use Rattle.std.specs.Prelude.{◌≡◌, ◌<◌, ℕ, Bool, List, length, take};
 ghost use Rattle.can_frame.specs.Levels.{is_recessive};
 ghost use Rattle.can_frame.specs.Parts.{Parts, IsFrame};
 ghost use Rattle.can_wire.specs.Wire.{head, unstuffed};
@@ -10,35 +10,27 @@ ghost use Rattle.can_gates_controller.specs.Fronts.{HoldsFront, HoldsLevels};
 
 use crate::front::frame_length;
 use crate::heard::Heard;
-use can_gates::{Circuit, Literal, constant, literal_at};
-use std::alloc::{AllocError, Global};
+use can_gates::{Circuit, Literal, constant};
 
 /// How many levels a check sequence has.
 const CHECK_LENGTH: u64 = 15;
 
 /// The next level of a sender's frame, of which it has heard what it sent: by its head, and behind that by the running check
 /// sequence, whose highest place it is.
-pub(crate) fn next_sent(
-    circuit: &mut Circuit,
-    alloc: Global,
-    heard: &Heard,
-    own: &[Literal],
-) -> Result<Literal, AllocError>
-    ensures { IfOk result (λ r. Makes circuit.old circuit.new (λ v. (f : Parts) (front : FrontParts) → IsFrame f → HoldsLevels v own.now (head f) → HoldsFront v heard.now front → front.unstuffed ≡ take (length front.unstuffed) (unstuffed f) → value v r ≡ is_recessive (sent_level f (length front.unstuffed)))) }
+pub(crate) fn next_sent(circuit: &mut Circuit, heard: &Heard, own: &[Literal; 103]) -> Literal
+    ensures { Makes circuit.old circuit.new (λ v. (f : Parts) (front : FrontParts) → IsFrame f → HoldsLevels v own.now (head f) → HoldsFront v heard.now front → front.unstuffed ≡ take (length front.unstuffed) (unstuffed f) → value v result ≡ is_recessive (sent_level f (length front.unstuffed))) }
 {
-    let level = circuit.select(alloc, own, &heard.count)?;
-    let length = frame_length(circuit, alloc, own)?;
-    let fifteen = constant(alloc, CHECK_LENGTH, 4)?;
-    let before = circuit.lowered(alloc, &length, &fifteen)?;
+    let level = circuit.select(own, &heard.count);
+    let length = frame_length(circuit, own);
+    let fifteen = constant::<7>(CHECK_LENGTH);
+    let before = circuit.lowered(&length, &fifteen);
     let of_head = circuit.less(&heard.count, &before);
-    let top = literal_at(&heard.check, 0);
-    let made = circuit.ite(of_head, level, top);
-    Ok(made)
+    circuit.ite(of_head, level, heard.check[0])
 }
 
 /// Whether the frame is extended.
-pub(crate) fn is_extended(own: &[Literal]) -> Literal
+pub(crate) fn is_extended(own: &[Literal; 103]) -> Literal
     ensures { (v : ℕ → Bool) (f : Parts) → IsFrame f → HoldsLevels v own.now (head f) → value v result ≡ f.id.extended }
 {
-    literal_at(own, 13)
+    own[13]
 }

@@ -1,5 +1,5 @@
 //! Which signals are inputs and registers.
-ghost use Rattle.std.specs.Prelude.{◌≡◌, ◌+◌, ◌<◌, ◌^◌, [], ℕ, Bool, IfOk, length};
+ghost use Rattle.std.specs.Prelude.{◌≡◌, ◌+◌, ◌<◌, ◌^◌, [], ℕ, Bool};
 ghost use Rattle.can_gates.specs.Circuit.{value};
 ghost use Rattle.can_gates_controller.specs.Listed.{AreSignals, nibble_before, counters_list, heard_list, register_list, field_list, input_list};
 
@@ -7,9 +7,8 @@ use crate::fields::Fields;
 use crate::heard::Heard;
 use crate::ports::InputPorts;
 use crate::registers::Registers;
-use can_gates::Literal;
+use can_gates::{FALSE, Literal};
 use can_gates_mac::{Controller, Counters, Nibble, Wires};
-use std::alloc::{AllocError, Global};
 
 /// The first signal of the frame that waits.
 const FRAME: u32 = 9;
@@ -33,11 +32,11 @@ const OWN: u32 = HEARD + PLACES + 27;
 pub(crate) const INPUTS: u32 = OWN + PLACES - 1;
 
 /// What comes in: an input each, in the order of their names.
-pub(crate) fn input_ports(alloc: Global) -> Result<InputPorts, AllocError>
-    ensures { IfOk result (λ r. AreSignals 1 107 (input_list r)) }
+pub(crate) fn input_ports() -> InputPorts
+    ensures { AreSignals 1 107 (input_list result) }
 {
-    let frame = frame_ports(alloc)?;
-    Ok(InputPorts {
+    let frame = frame_ports();
+    InputPorts {
         reset: signal(1),
         joins: signal(2),
         enable: signal(3),
@@ -47,27 +46,25 @@ pub(crate) fn input_ports(alloc: Global) -> Result<InputPorts, AllocError>
         wish_twos: signal(7),
         waits: signal(8),
         frame,
-    })
+    }
 }
 
 /// The fields of the frame that waits.
-fn frame_ports(alloc: Global) -> Result<Fields, AllocError>
-    ensures { IfOk result (λ r. AreSignals 9 99 (field_list r)) }
+fn frame_ports() -> Fields
+    ensures { AreSignals 9 99 (field_list result) }
 {
-    let identifier = signals(alloc, FRAME + 2, 29)?;
-    let bytes = signals(alloc, FRAME + 35, 64)?;
-    Ok(Fields {
+    Fields {
         extended: signal(FRAME),
         remote: signal(FRAME + 1),
-        identifier,
+        identifier: signals(FRAME + 2),
         dlc: nibble(FRAME + 31),
-        bytes,
-    })
+        bytes: signals(FRAME + 35),
+    }
 }
 
 /// The registers: an input each, in the order of their names.
-pub(crate) fn registers(alloc: Global) -> Result<Registers, AllocError>
-    ensures { IfOk result (λ r. AreSignals 108 277 (register_list r)) }
+pub(crate) fn registers() -> Registers
+    ensures { AreSignals 108 277 (register_list result) }
 {
     let wires = Wires {
         phase: nibble(WIRES),
@@ -81,41 +78,38 @@ pub(crate) fn registers(alloc: Global) -> Result<Registers, AllocError>
         cause: Nibble::of(0),
         event: Nibble::of(0),
     };
-    let counters = counters(alloc)?;
-    let heard = heard(alloc)?;
-    let own = signals(alloc, OWN, PLACES)?;
-    Ok(Registers {
-        controller: Controller { wires, counters },
-        heard,
-        own,
-    })
+    Registers {
+        controller: Controller {
+            wires,
+            counters: counters(),
+        },
+        heard: heard(),
+        own: signals(OWN),
+    }
 }
 
 /// Those of the counters.
-fn counters(alloc: Global) -> Result<Counters, AllocError>
-    ensures { IfOk result (λ r. AreSignals 128 24 (counters_list r)) }
+fn counters() -> Counters
+    ensures { AreSignals 128 24 (counters_list result) }
 {
-    let tec = signals(alloc, COUNTERS, 9)?;
-    let rec = signals(alloc, COUNTERS + 9, 8)?;
-    let occurrences = signals(alloc, COUNTERS + 17, 7)?;
-    let made = Counters::new(tec, rec, occurrences).ok_or(AllocError)?;
-    Ok(made)
+    Counters {
+        tec: signals(COUNTERS),
+        rec: signals(COUNTERS + 9),
+        occurrences: signals(COUNTERS + 17),
+    }
 }
 
 /// Those of what is heard.
-fn heard(alloc: Global) -> Result<Heard, AllocError>
-    ensures { IfOk result (λ r. AreSignals 152 130 (heard_list r)) }
+fn heard() -> Heard
+    ensures { AreSignals 152 130 (heard_list result) }
 {
-    let levels = signals(alloc, HEARD, PLACES)?;
-    let count = signals(alloc, HEARD + PLACES, 7)?;
-    let check = signals(alloc, HEARD + PLACES + 12, 15)?;
-    Ok(Heard {
-        levels,
-        count,
+    Heard {
+        levels: signals(HEARD),
+        count: signals(HEARD + PLACES),
         last: signal(HEARD + PLACES + 7),
         run: nibble(HEARD + PLACES + 8),
-        check,
-    })
+        check: signals(HEARD + PLACES + 12),
+    }
 }
 
 /// A signal.
@@ -143,13 +137,13 @@ fn nibble(first: u32) -> Nibble
 }
 
 /// So many signals, of which this is the first.
-fn signals(alloc: Global, first: u32, places: u32) -> Result<Vec<Literal>, AllocError>
-    requires { first + places < 2 ^ 32 }
-    ensures { IfOk result (λ r. (length r.items ≡ places) × AreSignals first places r.items) }
+fn signals<const N: usize>(first: u32) -> [Literal; N]
+    requires { first + N < 2 ^ 32 }
+    ensures { AreSignals first N result }
 {
-    let mut word = Vec::new(alloc);
-    for place in 0..places {
-        word.push(signal(first + place))?;
+    let mut word = [FALSE; N];
+    for place in 0..N {
+        word[place] = signal(first + place as u32);
     }
-    Ok(word)
+    word
 }

@@ -2,11 +2,9 @@
 ghost use Rattle.std.specs.Prelude.{◌≡◌, ◌<◌, ◌==◌, ◌&&◌, ◌||◌, ℕ, Bool, false, IfOk, length, slice_index_or};
 ghost use Rattle.can_mac.specs.State.{MacState};
 ghost use Rattle.can_gates.specs.Circuit.{value, Makes};
-ghost use Rattle.can_gates_controller.specs.declared.registers.Registers.{Registers as RegistersOf};
 ghost use Rattle.can_gates_controller.specs.Whole.{HoldsAll, IsBitTime};
 ghost use Rattle.can_gates_controller.specs.Steps.{ControllerStep, asked};
 ghost use Rattle.can_gates_controller.specs.Runs.{step_in, Shows};
-ghost use Rattle.can_gates_controller.specs.Listed.{AreSignals, register_list};
 ghost use Rattle.can_gates_controller.specs.Stepped.{TakesReset, TakesStep, taken_at};
 
 use crate::laying::levels_of;
@@ -14,7 +12,6 @@ use crate::legal::{is_legal, is_off};
 use crate::listing::list;
 use crate::ports::{InputPorts, OutputPorts};
 use crate::registers::{BitTime, Offered, Registers};
-use crate::signals::registers;
 use crate::telling::told_frame;
 use crate::whole::bit_time;
 use can_gates::{Circuit, FALSE, Literal, literal_at};
@@ -24,39 +21,36 @@ use std::alloc::{AllocError, Global};
 /// One more than the most own overload frames that can be asked for.
 const ABOVE_WISHES: u8 = 3;
 
+/// How many registers there are.
+const REGISTERS: usize = 277;
+
 /// A step: what the registers take, in their order, and what goes out.
 pub(crate) fn step(
     circuit: &mut Circuit,
     alloc: Global,
     held: &Registers,
     inputs: &InputPorts,
-) -> Result<(Vec<Literal>, OutputPorts), AllocError>
-    requires { AreSignals 108 277 (register_list held.now) }
-    ensures { IfOk result (λ r. (length r.0.items ≡ 277) × Makes circuit.old circuit.new (λ v. TakesReset v inputs.now held.now r.0.items × TakesStep v inputs.now r.1 held.now r.0.items)) }
+) -> Result<([Literal; 277], OutputPorts), AllocError>
+    ensures { IfOk result (λ r. (length r.0 ≡ 277) × Makes circuit.old circuit.new (λ v. TakesReset v inputs.now held.now r.0 × TakesStep v inputs.now r.1 held.now r.0)) }
 {
     let levels = levels_of(circuit, alloc, &inputs.frame)?;
     let offered = Offered {
         waits: inputs.waits,
         levels,
     };
-    let wished = with_wish(circuit, alloc, inputs)?;
-    let made = bit_time(circuit, alloc, &wished, &offered, inputs.bus)?;
+    let wished = with_wish(circuit, held, inputs);
+    let made = bit_time(circuit, &wished, &offered, inputs.bus);
     let outputs = show(circuit, alloc, held, inputs, &wished, &made)?;
     let before = list(alloc, held)?;
     let behind = list(alloc, &made.next)?;
-    let taken = take(circuit, alloc, inputs, &before, &behind)?;
+    let taken = take(circuit, inputs, &before, &behind);
     Ok((taken, outputs))
 }
 
 /// The registers, with the own overload frames that are asked for.
-fn with_wish(
-    circuit: &mut Circuit,
-    alloc: Global,
-    inputs: &InputPorts,
-) -> Result<Registers, AllocError>
-    ensures { IfOk result (λ r. Makes circuit.old circuit.new (λ v. (held : RegistersOf) (m : MacState) → AreSignals 108 277 (register_list held) → HoldsAll v held m → HoldsAll v r (asked (step_in v inputs.now).wish m))) }
+fn with_wish(circuit: &mut Circuit, held: &Registers, inputs: &InputPorts) -> Registers
+    ensures { Makes circuit.old circuit.new (λ v. (m : MacState) → HoldsAll v held.now m → HoldsAll v result (asked (step_in v inputs.now).wish m)) }
 {
-    let held = registers(alloc)?;
     let wish = Nibble {
         ones: inputs.wish_ones,
         twos: inputs.wish_twos,
@@ -66,16 +60,10 @@ fn with_wish(
     let few = wish.less(circuit, ABOVE_WISHES);
     let asks = circuit.and(inputs.hold, few);
     let pending = Nibble::choose(circuit, asks, wish, held.controller.wires.pending);
-    let Registers {
-        controller,
-        heard,
-        own,
-    } = held;
-    Ok(Registers {
-        controller: asking(controller, pending),
-        heard,
-        own,
-    })
+    Registers {
+        controller: asking(held.controller, pending),
+        ..*held
+    }
 }
 
 /// What goes out, where these registers are held, and with own overload frames these; and this is the bit time, if one passes.
@@ -95,15 +83,13 @@ fn show(
     let told = Nibble::choose(circuit, passes, event, Nibble::of(0));
     let frame = told_frame(circuit, alloc, wished)?;
     let passive = is_passive(circuit, &counters.tec, &counters.rec);
-    let legal = is_legal(circuit, alloc, held)?;
-    let tec = Vec::from_slice(alloc, &counters.tec)?;
-    let rec = Vec::from_slice(alloc, &counters.rec)?;
+    let legal = is_legal(circuit, held);
     Ok(OutputPorts {
         drive: made.recessive,
         told,
         frame,
-        tec,
-        rec,
+        tec: counters.tec,
+        rec: counters.rec,
         passive,
         off: is_off(counters),
         legal,
@@ -114,42 +100,39 @@ fn show(
 /// none passes what they hold.
 fn take(
     circuit: &mut Circuit,
-    alloc: Global,
     inputs: &InputPorts,
     held: &[Literal],
     next: &[Literal],
-) -> Result<Vec<Literal>, AllocError>
-    ensures { IfOk result (λ r. (length r.items ≡ length held.now) × Makes circuit.old circuit.new (λ v. (p : ℕ) → p < length held.now → value v (slice_index_or r.items p FALSE) ≡ taken_at (value v inputs.now.reset) (value v inputs.now.joins) (value v inputs.now.enable) p (value v (slice_index_or next.now p FALSE)) (value v (slice_index_or held.now p FALSE)))) }
+) -> [Literal; 277]
+    ensures places { length result ≡ 277 }
+    ensures taken { Makes circuit.old circuit.new (λ v. (p : ℕ) → p < 277 → value v (slice_index_or result p FALSE) ≡ taken_at (value v inputs.now.reset) (value v inputs.now.joins) (value v inputs.now.enable) p (value v (slice_index_or next.now p FALSE)) (value v (slice_index_or held.now p FALSE))) }
 {
     let passes = circuit.and(inputs.enable, inputs.reset.opposite());
     let rests = circuit.and(inputs.enable.opposite(), inputs.reset.opposite());
     let joins = circuit.and(inputs.reset, inputs.joins);
-    let taken = merge(circuit, alloc, passes, next, rests, held, joins)?;
-    Ok(taken)
+    merge(circuit, passes, next, rests, held, joins)
 }
 
-/// The one level where a first test holds, the other one where a second does, at the first place a third, as many as the other
-/// ones.
+/// The one level where a first test holds, the other one where a second does, at the first place a third.
 fn merge(
     circuit: &mut Circuit,
-    alloc: Global,
     passes: Literal,
     next: &[Literal],
     rests: Literal,
     held: &[Literal],
     joins: Literal,
-) -> Result<Vec<Literal>, AllocError>
-    ensures { IfOk result (λ r. (length r.items ≡ length held.now) × Makes circuit.old circuit.new (λ v. (p : ℕ) → p < length held.now → value v (slice_index_or r.items p FALSE) ≡ (((value v passes && value v (slice_index_or next.now p FALSE)) || (value v rests && value v (slice_index_or held.now p FALSE))) || (p == 0 && value v joins)))) }
+) -> [Literal; 277]
+    ensures places { length result ≡ 277 }
+    ensures merged { Makes circuit.old circuit.new (λ v. (p : ℕ) → p < 277 → value v (slice_index_or result p FALSE) ≡ (((value v passes && value v (slice_index_or next.now p FALSE)) || (value v rests && value v (slice_index_or held.now p FALSE))) || (p == 0 && value v joins))) }
 {
-    let mut all = Vec::new(alloc);
-    for place in 0..held.len() {
+    let mut all = [FALSE; REGISTERS];
+    for place in 0..REGISTERS {
         let new = circuit.and(passes, literal_at(next, place));
         let old = circuit.and(rests, literal_at(held, place));
         let either = circuit.or(new, old);
-        let taken = circuit.or(either, at_first(place, joins));
-        all.push(taken)?;
+        all[place] = circuit.or(either, at_first(place, joins));
     }
-    Ok(all)
+    all
 }
 
 /// A literal at the first place, and none at others.

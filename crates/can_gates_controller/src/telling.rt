@@ -13,7 +13,6 @@ ghost use Rattle.can_gates_controller.specs.Fields.{HoldsFields, frame_told};
 ghost use Rattle.can_gates_controller.specs.Laying.{turned_word};
 
 use crate::fields::{Fields, LOWER_BITS, UPPER_BITS, clear_behind};
-use crate::laying::PLACES;
 use crate::levels::choose_levels;
 use crate::registers::Registers;
 use crate::turning::{push_turned, push_turned_bytes};
@@ -33,14 +32,7 @@ pub fn told_frame(
     ensures { IfOk result (λ r. Makes circuit.old circuit.new (λ v. (m : MacState) (waiting : Option Parts) (x : Level) (f : Parts) → HoldsAll v held.now m → frame_told (mac_step m waiting x).1 ≡ Some f → HoldsFields v r f)) }
 {
     let sender = held.controller.wires.sender;
-    let levels = choose_levels(
-        circuit,
-        alloc,
-        PLACES,
-        sender,
-        &held.own,
-        &held.heard.levels,
-    )?;
+    let levels = choose_levels(circuit, sender, &held.own, &held.heard.levels);
     let made = fields_of(circuit, alloc, &levels)?;
     Ok(made)
 }
@@ -49,31 +41,24 @@ pub fn told_frame(
 pub fn fields_of(
     circuit: &mut Circuit,
     alloc: Global,
-    levels: &[Literal],
+    levels: &[Literal; 103],
 ) -> Result<Fields, AllocError>
     ensures { IfOk result (λ r. Makes circuit.old circuit.new (λ v. (u : List Level) → HoldsLevels v levels.now u → HoldsFields v r (frame_of u))) }
 {
-    let extended = literal_at(levels, 13);
+    let extended = levels[13];
     let identifier = identifier_of(circuit, alloc, extended, levels)?;
     // from its RTR bit on a frame is the same in both formats: two bits follow, the data length code, and the data
-    let behind = choose_levels(
-        circuit,
-        alloc,
-        BEHIND,
-        extended,
-        levels_from(levels, 32),
-        levels_from(levels, 12),
-    )?;
-    let remote = literal_at(&behind, 0);
+    let behind = choose_levels::<BEHIND>(circuit, extended, &levels[32..], &levels[12..]);
+    let remote = behind[0];
     let dlc = Nibble {
-        ones: literal_at(&behind, 6),
-        twos: literal_at(&behind, 5),
-        fours: literal_at(&behind, 4),
-        eights: literal_at(&behind, 3),
+        ones: behind[6],
+        twos: behind[5],
+        fours: behind[4],
+        eights: behind[3],
     };
     let mut word = Vec::new(alloc);
     push_turned_bytes(&mut word, &behind, 7)?;
-    let bytes = clear_behind(circuit, alloc, remote, dlc, &word)?;
+    let bytes = clear_behind(circuit, remote, dlc, &word);
     Ok(Fields {
         extended,
         remote,
@@ -83,30 +68,20 @@ pub fn fields_of(
     })
 }
 
-/// The levels from a place on.
-fn levels_from(levels: &[Literal], place: usize) -> &[Literal]
-    ensures { result.now ≡ drop place levels.now }
-{
-    if levels.len() < place {
-        return &[];
-    }
-    &levels[place..]
-}
-
 /// The identifier of the frame that begins with these levels: in an extended one its eleven highest bits stand before the others.
 fn identifier_of(
     circuit: &mut Circuit,
     alloc: Global,
     extended: Literal,
-    levels: &[Literal],
-) -> Result<Vec<Literal>, AllocError>
-    ensures { IfOk result (λ r. (length r.items ≡ 29) × Makes circuit.old circuit.new (λ v. number v r.items ≡ (if value v extended then number v (turned_word 18 (drop 14 levels.now) ++ turned_word 11 (drop 1 levels.now)) else number v (turned_word 11 (drop 1 levels.now))))) }
+    levels: &[Literal; 103],
+) -> Result<[Literal; 29], AllocError>
+    ensures { IfOk result (λ r. (length r ≡ 29) × Makes circuit.old circuit.new (λ v. number v r ≡ (if value v extended then number v (turned_word 18 (drop 14 levels.now) ++ turned_word 11 (drop 1 levels.now)) else number v (turned_word 11 (drop 1 levels.now))))) }
 {
     let mut short = Vec::new(alloc);
     push_turned(&mut short, levels, 1, UPPER_BITS)?;
     let mut long = Vec::new(alloc);
     push_turned(&mut long, levels, 14, LOWER_BITS)?;
     long.extend_from_slice(&short)?;
-    let made = circuit.choose(alloc, extended, &long, &short)?;
+    let made = choose_levels(circuit, extended, &long, &short);
     Ok(made)
 }

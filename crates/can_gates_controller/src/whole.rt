@@ -1,5 +1,5 @@
 //! A bit time of a controller with the frame on the bus.
-ghost use Rattle.std.specs.Prelude.{◌≡◌, ◌<◌, ℕ, Bool, Option, if◌then◌else◌, IfOk, slice_index_or};
+ghost use Rattle.std.specs.Prelude.{◌≡◌, ◌<◌, ℕ, Bool, Option, if◌then◌else◌, slice_index_or};
 ghost use Rattle.can_frame.specs.declared.level.Level.{Level};
 ghost use Rattle.can_frame.specs.Levels.{is_recessive};
 ghost use Rattle.can_frame.specs.Parts.{Parts};
@@ -21,23 +21,18 @@ use crate::seen::Seen;
 use crate::sending::{is_extended, next_sent};
 use can_gates::{Circuit, FALSE, Literal};
 use can_gates_mac::{Sends, drive};
-use std::alloc::{AllocError, Global};
-
-/// How many places of a sender's frame have a register.
-const PLACES: usize = 103;
 
 /// A bit time of a controller with the frame on the bus: what its registers take, what it drives, and what it tells.
 pub fn bit_time(
     circuit: &mut Circuit,
-    alloc: Global,
     held: &Registers,
     offered: &Offered,
     seen: Literal,
-) -> Result<BitTime, AllocError>
-    ensures { IfOk result (λ r. Makes circuit.old circuit.new (λ v. (m : MacState) (waiting : Option Parts) (x : Level) → HoldsAll v held.now m → Offers v offered.now waiting → value v seen ≡ is_recessive x → IsBitTime v r held.now m waiting x)) }
+) -> BitTime
+    ensures { Makes circuit.old circuit.new (λ v. (m : MacState) (waiting : Option Parts) (x : Level) → HoldsAll v held.now m → Offers v offered.now waiting → value v seen ≡ is_recessive x → IsBitTime v result held.now m waiting x) }
 {
-    let sends = reads(circuit, alloc, held, offered.waits)?;
-    let recessive = drive(circuit, alloc, &held.controller, &sends)?;
+    let sends = reads(circuit, held, offered.waits);
+    let recessive = drive(circuit, &held.controller, &sends);
     let sees = Seen {
         waits: offered.waits,
         seen,
@@ -45,52 +40,45 @@ pub fn bit_time(
         sent: sends.sent,
         extended: is_extended(&held.own),
     };
-    let (controller, heard) = step_hearing(circuit, alloc, &held.controller, &held.heard, &sees)?;
-    let within = within(circuit, alloc, held.controller.wires.phase)?;
-    let own = next_own(circuit, alloc, within, &held.own, &offered.levels)?;
-    Ok(BitTime {
+    let (controller, heard) = step_hearing(circuit, &held.controller, &held.heard, &sees);
+    let within = within(circuit, held.controller.wires.phase);
+    let own = next_own(circuit, within, &held.own, &offered.levels);
+    BitTime {
         next: Registers {
             controller,
             heard,
             own,
         },
         recessive,
-    })
+    }
 }
 
 /// What is read of registers to drive a level.
-fn reads(
-    circuit: &mut Circuit,
-    alloc: Global,
-    held: &Registers,
-    waits: Literal,
-) -> Result<Sends, AllocError>
-    ensures { IfOk result (λ r. Makes circuit.old circuit.new (λ v. (m : MacState) (waiting : Option Parts) → HoldsAll v held.now m → value v waits ≡ is_waiting waiting → DrivesIn v r m waiting)) }
+fn reads(circuit: &mut Circuit, held: &Registers, waits: Literal) -> Sends
+    ensures { Makes circuit.old circuit.new (λ v. (m : MacState) (waiting : Option Parts) → HoldsAll v held.now m → value v waits ≡ is_waiting waiting → DrivesIn v result m waiting) }
 {
     let heard = &held.heard;
     let agrees = agrees(circuit, &heard.check);
     let due = circuit.and(heard.run.ones, heard.run.fours);
-    let sent = next_sent(circuit, alloc, heard, &held.own)?;
-    Ok(Sends {
+    let sent = next_sent(circuit, heard, &held.own);
+    Sends {
         waits,
         agrees,
         due,
         last: heard.last,
         sent,
-    })
+    }
 }
 
 /// The sender's frame behind a bit time: within a frame what it was, else the one that waits.
 fn next_own(
     circuit: &mut Circuit,
-    alloc: Global,
     within: Within,
-    own: &[Literal],
-    offered: &[Literal],
-) -> Result<Vec<Literal>, AllocError>
-    ensures { IfOk result (λ r. Makes circuit.old circuit.new (λ v. (p : MacPhase) (place : ℕ) → ShowsWithin v within p → place < 103 → value v (slice_index_or r.items place FALSE) ≡ (if is_in_frame p then value v (slice_index_or own.now place FALSE) else value v (slice_index_or offered.now place FALSE)))) }
+    own: &[Literal; 103],
+    offered: &[Literal; 103],
+) -> [Literal; 103]
+    ensures { Makes circuit.old circuit.new (λ v. (p : MacPhase) (place : ℕ) → ShowsWithin v within p → place < 103 → value v (slice_index_or result place FALSE) ≡ (if is_in_frame p then value v (slice_index_or own.now place FALSE) else value v (slice_index_or offered.now place FALSE))) }
 {
     let busy = circuit.or(within.part, within.end);
-    let made = choose_levels(circuit, alloc, PLACES, busy, own, offered)?;
-    Ok(made)
+    choose_levels(circuit, busy, own, offered)
 }

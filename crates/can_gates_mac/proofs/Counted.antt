@@ -56,7 +56,7 @@ changed_is c PassiveUnacknowledged = (refl, (refl, (refl, refl)))
 changed_is c FrameSent = (refl, (refl, (refl, refl)))
 changed_is c FrameReceived = (refl, (refl, (refl, refl)))
 
-pub counting_step : (v : ℕ → Bool) (k : Controller) (m : MacMove) (c : ConfineParts) (cause : Option Cause) (off : Bool) → off ≡ nat_le 256 (number v k.counters.tec.items) → uncaused (shown v k.wires) ≡ cond off (gone m.overloads) (uncaused (numbers m)) → number v k.counters.tec.items ≡ tec_after (cause_number cause) c.tec → number v k.counters.rec.items ≡ rec_after (cause_number cause) c.rec → number v k.counters.occurrences.items ≡ c.occurrences → c.tec < 256 → c.row ≡ 0 → is_off_phase m.phase ≡ false → IsStep v k (step_counting m c cause)
+pub counting_step : (v : ℕ → Bool) (k : Controller) (m : MacMove) (c : ConfineParts) (cause : Option Cause) (off : Bool) → off ≡ nat_le 256 (number v k.counters.tec) → uncaused (shown v k.wires) ≡ cond off (gone m.overloads) (uncaused (numbers m)) → number v k.counters.tec ≡ tec_after (cause_number cause) c.tec → number v k.counters.rec ≡ rec_after (cause_number cause) c.rec → number v k.counters.occurrences ≡ c.occurrences → c.tec < 256 → c.row ≡ 0 → is_off_phase m.phase ≡ false → IsStep v k (step_counting m c cause)
 counting_step v k m c None off is_off state tec rec occurrences low row on =
     let stays : off ≡ false = is_off ∙ rw tec (not_off c.tec low) in
     record { state = rw stays at state ∙ on_state m c on; counters = record { tec = tec; rec = rec; occurrences = occurrences } }

@@ -60,14 +60,3 @@ pub top_two : (v : ℕ → Bool) → v 0 ≡ false → (word : List Literal) (k 
 top_two v zero_is word k long =
     let whole : number v word ≡ number v (take (suc k) word) + 2 ^ suc k * bit (value v (get_or word (suc k) never)) = ap (number v) (sym (take_all (suc (suc k)) word (omega (arith, long)))) ∙ number-take v zero_is word (suc k) in
     rw (whole, number-take v zero_is word k, pow-suc 2 k) (two_bits (number v (take k word)) (2 ^ k) (value v (get_or word k never)) (value v (get_or word (suc k) never)) (number-take-lt v word k))
-
-either_default : (word : List Literal) (k : ℕ) (d e : Literal) → k < length word → get_or word k d ≡ get_or word k e
-either_default [] k d e h = absurd (omega (arith, h))
-either_default (l ∷ word) zero d e h = refl
-either_default (l ∷ word) (suc k) d e h = either_default word k d e (omega (arith, h))
-
--- the literal that a vector has at its highest place
-pub top_index : (v : ℕ → Bool) → v 0 ≡ false → (word : List Literal) (k : ℕ) (l : Literal) → length word ≡ suc k → l ≡ get_or word k l → value v l ≡ nat_le (2 ^ k) (number v word)
-top_index v zero_is word k l long is =
-    let within : k < length word = omega (arith, long) in
-    ap (value v) (is ∙ either_default word k l never within) ∙ sym (top_is v zero_is word k long)

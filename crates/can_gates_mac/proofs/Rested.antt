@@ -49,7 +49,7 @@ ended_mac role o c = (record { phase = Idle; role = role; overloads = o; counter
 abbrev waiting_mac : Role → Overloads → ConfineParts → MacState × Option Event
 waiting_mac role o c = (record { phase = BusOff; role = role; overloads = o; counters = c }, None)
 
-rested : (v : ℕ → Bool) (k : Controller) (role : Role) (o : Overloads) (c : ConfineParts) (x : Level) (b : Bool) (row : ℕ) → is_bus_off c ≡ true → ends_bus_off x c ≡ b → uncaused (shown v k.wires) ≡ resting_numbers b row role o → row ≡ (recovered x c).row → number v k.counters.tec.items ≡ cond b 0 c.tec → number v k.counters.rec.items ≡ cond b 0 c.rec → number v k.counters.occurrences.items ≡ (recovered x c).occurrences → IsStep v k (off_step (off_mac role o c) x)
+rested : (v : ℕ → Bool) (k : Controller) (role : Role) (o : Overloads) (c : ConfineParts) (x : Level) (b : Bool) (row : ℕ) → is_bus_off c ≡ true → ends_bus_off x c ≡ b → uncaused (shown v k.wires) ≡ resting_numbers b row role o → row ≡ (recovered x c).row → number v k.counters.tec ≡ cond b 0 c.tec → number v k.counters.rec ≡ cond b 0 c.rec → number v k.counters.occurrences ≡ (recovered x c).occurrences → IsStep v k (off_step (off_mac role o c) x)
 rested v k role o c x true row off end state is_row tec rec occurrences =
     let new : recovered x c ≡ fresh = cond-true (is_bus_off c) (cond (ends_bus_off x c) fresh (after_level x c)) c off ∙ cond-true (ends_bus_off x c) fresh (after_level x c) end in
     let none : row ≡ 0 = is_row ∙ ap (λ n. n.row) new in
@@ -62,7 +62,7 @@ rested v k role o c x false row off end state is_row tec rec occurrences =
     subst P (sym (cond-false (ends_bus_off x c) (ended_mac role o (recovered x c)) (waiting_mac role o (recovered x c)) end)) (record { state = state ∙ rw is_row refl; counters = record { tec = tec ∙ sym (ap (λ n. n.tec) new ∙ keeps.0); rec = rec ∙ sym (ap (λ n. n.rec) new ∙ keeps.1); occurrences = occurrences } })
 
 -- the same, whichever phase it is
-pub rests : (v : ℕ → Bool) (k : Controller) (p : MacPhase) (role : Role) (o : Overloads) (c : ConfineParts) (x : Level) (b : Bool) (row : ℕ) → is_off_phase p ≡ true → is_bus_off c ≡ true → b ≡ ends_bus_off x c → uncaused (shown v k.wires) ≡ resting_numbers b row role o → row ≡ (recovered x c).row → number v k.counters.tec.items ≡ cond b 0 c.tec → number v k.counters.rec.items ≡ cond b 0 c.rec → number v k.counters.occurrences.items ≡ (recovered x c).occurrences → IsStep v k (off_step (record { phase = p; role = role; overloads = o; counters = c }) x)
+pub rests : (v : ℕ → Bool) (k : Controller) (p : MacPhase) (role : Role) (o : Overloads) (c : ConfineParts) (x : Level) (b : Bool) (row : ℕ) → is_off_phase p ≡ true → is_bus_off c ≡ true → b ≡ ends_bus_off x c → uncaused (shown v k.wires) ≡ resting_numbers b row role o → row ≡ (recovered x c).row → number v k.counters.tec ≡ cond b 0 c.tec → number v k.counters.rec ≡ cond b 0 c.rec → number v k.counters.occurrences ≡ (recovered x c).occurrences → IsStep v k (off_step (record { phase = p; role = role; overloads = o; counters = c }) x)
 rests v k p role o c x b row is_off off end state is_row tec rec occurrences =
     let P : MacPhase → Type 0 = λ q. IsStep v k (off_step (record { phase = q; role = role; overloads = o; counters = c }) x) in
     subst P (sym (off_is p is_off)) (rested v k role o c x b row off (sym end) state is_row tec rec occurrences)

@@ -14,9 +14,9 @@ use Rattle.can_gates_mac.specs.Shown.{shown}
 -- the one controller, or the other
 pub record IsChosen (v : ℕ → Bool) (k : Controller) (test : Bool) (a b : Controller) : Type 0 where
   pub wires : shown v k.wires ≡ (if test then shown v a.wires else shown v b.wires)
-  pub tec : number v k.counters.tec.items ≡ (if test then number v a.counters.tec.items else number v b.counters.tec.items)
-  pub rec : number v k.counters.rec.items ≡ (if test then number v a.counters.rec.items else number v b.counters.rec.items)
-  pub occurrences : number v k.counters.occurrences.items ≡ (if test then number v a.counters.occurrences.items else number v b.counters.occurrences.items)
+  pub tec : number v k.counters.tec ≡ (if test then number v a.counters.tec else number v b.counters.tec)
+  pub rec : number v k.counters.rec ≡ (if test then number v a.counters.rec else number v b.counters.rec)
+  pub occurrences : number v k.counters.occurrences ≡ (if test then number v a.counters.occurrences else number v b.counters.occurrences)
 
 -- a level off the bus
 pub record Recovers (v : ℕ → Bool) (row : Nibble) (occurrences : List Literal) (end : Literal) (c : ConfineParts) (x : Level) : Type 0 where

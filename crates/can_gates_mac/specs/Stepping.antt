@@ -25,9 +25,9 @@ abbrev pub state_numbers : MacState → Option Event → Numbers
 state_numbers m e = record { phase = phase_number m.phase; place = place_or_row m; last = last_recessive m.phase; unacknowledged = unacknowledged_of m.phase; first = is_first m.phase; sender = is_sender m.role; pending = m.overloads.pending; used = m.overloads.used; cause = 0; event = event_number e }
 
 pub record HoldsCounters (v : ℕ → Bool) (k : Counters) (c : ConfineParts) : Type 0 where
-  pub tec : number v k.tec.items ≡ c.tec
-  pub rec : number v k.rec.items ≡ c.rec
-  pub occurrences : number v k.occurrences.items ≡ c.occurrences
+  pub tec : number v k.tec ≡ c.tec
+  pub rec : number v k.rec ≡ c.rec
+  pub occurrences : number v k.occurrences ≡ c.occurrences
 
 -- the registers hold this controller, but for its frames and the front of the frame on the bus
 pub record Holds (v : ℕ → Bool) (k : Controller) (m : MacState) : Type 0 where

@@ -1,5 +1,5 @@
 //! A bit time of a controller.
-ghost use Rattle.std.specs.Prelude.{◌≡◌, ◌<◌, ℕ, Bool, true, false, Option, IfOk};
+ghost use Rattle.std.specs.Prelude.{◌≡◌, ◌<◌, ℕ, Bool, true, false, Option};
 ghost use Rattle.can_frame.specs.declared.level.Level.{Level};
 ghost use Rattle.can_frame.specs.Levels.{is_recessive};
 ghost use Rattle.can_frame.specs.Parts.{Parts};
@@ -23,16 +23,10 @@ use crate::registers::{Controller, Counters};
 use crate::sensing::compare;
 use crate::wires::{Inputs, Now, Wires};
 use can_gates::{Circuit, FALSE, Literal};
-use std::alloc::{AllocError, Global};
 
 /// A bit time of a controller: what its registers take, and what it tells.
-pub fn step(
-    circuit: &mut Circuit,
-    alloc: Global,
-    held: &Controller,
-    inputs: &Inputs,
-) -> Result<Controller, AllocError>
-    ensures { IfOk result (λ r. Makes circuit.old circuit.new (λ v. (m : MacState) (waiting : Option Parts) (x : Level) → IsMac m → IsFrameOrNone waiting → Holds v held.now m → IsInput v inputs.now m waiting x → IsStep v r (mac_step m waiting x))) }
+pub fn step(circuit: &mut Circuit, held: &Controller, inputs: &Inputs) -> Controller
+    ensures { Makes circuit.old circuit.new (λ v. (m : MacState) (waiting : Option Parts) (x : Level) → IsMac m → IsFrameOrNone waiting → Holds v held.now m → IsInput v inputs.now m waiting x → IsStep v result (mac_step m waiting x)) }
 {
     let state = held.wires;
     let passive = is_passive(circuit, &held.counters.tec, &held.counters.rec);
@@ -51,54 +45,41 @@ pub fn step(
         agrees: inputs.agrees,
     };
     let moved = next_move(circuit, &now, &inputs.part);
-    let on = count(circuit, alloc, &moved, &held.counters)?;
-    let off = rest(circuit, alloc, held, inputs.seen)?;
+    let on = count(circuit, &moved, &held.counters);
+    let off = rest(circuit, held, inputs.seen);
     let is_off = held.counters.tec[8];
-    let made = choose_controller(circuit, alloc, is_off, &off, &on)?;
-    Ok(made)
+    choose_controller(circuit, is_off, &off, &on)
 }
 
 /// The one controller where the test holds, else the other one.
 fn choose_controller(
     circuit: &mut Circuit,
-    alloc: Global,
     test: Literal,
     a: &Controller,
     b: &Controller,
-) -> Result<Controller, AllocError>
-    ensures { IfOk result (λ r. Makes circuit.old circuit.new (λ v. IsChosen v r (value v test) a.now b.now)) }
+) -> Controller
+    ensures { Makes circuit.old circuit.new (λ v. IsChosen v result (value v test) a.now b.now) }
 {
     let wires = choose_wires(circuit, test, a.wires, b.wires);
-    let tec = circuit.choose(alloc, test, &a.counters.tec, &b.counters.tec)?;
-    let rec = circuit.choose(alloc, test, &a.counters.rec, &b.counters.rec)?;
-    let occurrences = circuit.choose(
-        alloc,
-        test,
-        &a.counters.occurrences,
-        &b.counters.occurrences,
-    )?;
-    Ok(Controller {
+    let tec = circuit.choose(test, &a.counters.tec, &b.counters.tec);
+    let rec = circuit.choose(test, &a.counters.rec, &b.counters.rec);
+    let occurrences = circuit.choose(test, &a.counters.occurrences, &b.counters.occurrences);
+    Controller {
         wires,
         counters: Counters {
             tec,
             rec,
             occurrences,
         },
-    })
+    }
 }
 
 /// A move, and what it counts.
-fn count(
-    circuit: &mut Circuit,
-    alloc: Global,
-    moved: &Wires,
-    counters: &Counters,
-) -> Result<Controller, AllocError>
-    ensures { IfOk result (λ r. Makes circuit.old circuit.new (λ v. (m : MacMove) (c : ConfineParts) → shown v moved.now ≡ numbers m → is_off_phase m.phase ≡ false → HoldsCounters v counters.now c → c.tec < 256 → c.row ≡ 0 → IsStep v r (step_counting m c m.cause))) }
+fn count(circuit: &mut Circuit, moved: &Wires, counters: &Counters) -> Controller
+    ensures { Makes circuit.old circuit.new (λ v. (m : MacMove) (c : ConfineParts) → shown v moved.now ≡ numbers m → is_off_phase m.phase ≡ false → HoldsCounters v counters.now c → c.tec < 256 → c.row ≡ 0 → IsStep v result (step_counting m c m.cause)) }
 {
-    let tec = tec_behind(circuit, alloc, moved.cause, &counters.tec)?;
-    let rec = rec_behind(circuit, alloc, moved.cause, &counters.rec)?;
-    let occurrences = Vec::from_slice(alloc, &counters.occurrences)?;
+    let tec = tec_behind(circuit, moved.cause, &counters.tec);
+    let rec = rec_behind(circuit, moved.cause, &counters.rec);
     let zero = Nibble::of(0);
     let off = Wires {
         phase: Nibble::of(BUS_OFF),
@@ -114,35 +95,29 @@ fn count(
     };
     let went_off = tec[8];
     let wires = choose_wires(circuit, went_off, off, *moved);
-    Ok(Controller {
+    Controller {
         wires,
         counters: Counters {
             tec,
             rec,
-            occurrences,
+            occurrences: counters.occurrences,
         },
-    })
+    }
 }
 
 /// A level off the bus.
-fn rest(
-    circuit: &mut Circuit,
-    alloc: Global,
-    held: &Controller,
-    seen: Literal,
-) -> Result<Controller, AllocError>
-    ensures { IfOk result (λ r. Makes circuit.old circuit.new (λ v. (m : MacState) (x : Level) → IsMac m → Holds v held.now m → is_off_phase m.phase ≡ true → value v seen ≡ is_recessive x → IsStep v r (off_step m x))) }
+fn rest(circuit: &mut Circuit, held: &Controller, seen: Literal) -> Controller
+    ensures { Makes circuit.old circuit.new (λ v. (m : MacState) (x : Level) → IsMac m → Holds v held.now m → is_off_phase m.phase ≡ true → value v seen ≡ is_recessive x → IsStep v result (off_step m x)) }
 {
     let state = held.wires;
     let places = compare(circuit, state.place);
-    let recovery = recover(circuit, alloc, &places, seen, &held.counters.occurrences)?;
     let Recovery {
         row,
         occurrences,
         ended,
-    } = recovery;
-    let tec = circuit.choose(alloc, ended, &[FALSE], &held.counters.tec)?;
-    let rec = circuit.choose(alloc, ended, &[FALSE], &held.counters.rec)?;
+    } = recover(circuit, &places, seen, &held.counters.occurrences);
+    let tec = circuit.choose(ended, &[FALSE; 9], &held.counters.tec);
+    let rec = circuit.choose(ended, &[FALSE; 8], &held.counters.rec);
     let wires = Wires {
         phase: rest_phase(ended),
         place: row,
@@ -155,12 +130,12 @@ fn rest(
         cause: Nibble::of(UNCOUNTED),
         event: rest_event(ended),
     };
-    Ok(Controller {
+    Controller {
         wires,
         counters: Counters {
             tec,
             rec,
             occurrences,
         },
-    })
+    }
 }

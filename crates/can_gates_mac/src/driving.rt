@@ -1,5 +1,5 @@
 //! What a controller drives, and the stuffing of a frame. (Bosch CAN 2.0 part B, sections 3.2 and 6)
-ghost use Rattle.std.specs.Prelude.{◌≡◌, ◌≤◌, ◌==◌, ℕ, Bool, nat_le, Option, IfOk};
+ghost use Rattle.std.specs.Prelude.{◌≡◌, ◌≤◌, ◌==◌, ℕ, Bool, nat_le, Option};
 ghost use Rattle.can_frame.specs.declared.level.Level.{Level};
 ghost use Rattle.can_frame.specs.Levels.{is_recessive, same};
 ghost use Rattle.can_frame.specs.Parts.{Parts};
@@ -15,7 +15,6 @@ ghost use Rattle.can_gates_mac.specs.Driving.{DrivesIn, HoldsRun};
 use crate::nibble::Nibble;
 use crate::registers::Controller;
 use can_gates::{Circuit, FALSE, Literal, TRUE, constant};
-use std::alloc::{AllocError, Global};
 
 /// What a controller reads of the frame that waits and of the frame on the bus, to drive a level.
 #[derive(Clone, Copy)]
@@ -46,13 +45,8 @@ pub struct StuffPlace {
 }
 
 /// Whether a controller drives recessive.
-pub fn drive(
-    circuit: &mut Circuit,
-    alloc: Global,
-    held: &Controller,
-    sends: &Sends,
-) -> Result<Literal, AllocError>
-    ensures { IfOk result (λ r. Makes circuit.old circuit.new (λ v. (m : MacState) (waiting : Option Parts) → Holds v held.now m → DrivesIn v sends.now m waiting → value v r ≡ is_recessive (mac_drives m waiting))) }
+pub fn drive(circuit: &mut Circuit, held: &Controller, sends: &Sends) -> Literal
+    ensures { Makes circuit.old circuit.new (λ v. (m : MacState) (waiting : Option Parts) → Holds v held.now m → DrivesIn v sends.now m waiting → value v result ≡ is_recessive (mac_drives m waiting)) }
 {
     let phase = held.wires.phase;
     let receiver = held.wires.sender.opposite();
@@ -68,8 +62,7 @@ pub fn drive(
         TRUE, TRUE,
     ];
     let place = [phase.ones, phase.twos, phase.fours, phase.eights];
-    let made = circuit.select(alloc, &items, &place)?;
-    Ok(made)
+    circuit.select(&items, &place)
 }
 
 /// What a level is to the run of equal levels before it, of which the last was recessive or not.
@@ -99,17 +92,11 @@ const BEHIND_EXTENDED: u64 = 33;
 
 /// Whether the place of this number belongs to the arbitration of a frame of this format. (Bosch CAN 2.0 part B,
 /// section 3.2.1)
-pub fn arbitrates(
-    circuit: &mut Circuit,
-    alloc: Global,
-    count: &[Literal],
-    extended: Literal,
-) -> Result<Literal, AllocError>
-    ensures { IfOk result (λ r. Makes circuit.old circuit.new (λ v. value v r ≡ nat_le (number v count.now) (rtr_place (value v extended)))) }
+pub fn arbitrates(circuit: &mut Circuit, count: &[Literal], extended: Literal) -> Literal
+    ensures { Makes circuit.old circuit.new (λ v. value v result ≡ nat_le (number v count.now) (rtr_place (value v extended))) }
 {
-    let long = constant(alloc, BEHIND_EXTENDED, 6)?;
-    let short = constant(alloc, BEHIND_STANDARD, 6)?;
-    let bound = circuit.choose(alloc, extended, &long, &short)?;
-    let made = circuit.less(count, &bound);
-    Ok(made)
+    let long = constant::<6>(BEHIND_EXTENDED);
+    let short = constant::<6>(BEHIND_STANDARD);
+    let bound = circuit.choose(extended, &long, &short);
+    circuit.less(count, &bound)
 }

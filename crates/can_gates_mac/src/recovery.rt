@@ -1,5 +1,5 @@
 //! Off the bus, and how it ends. (Bosch CAN 2.0 part B, section 8)
-ghost use Rattle.std.specs.Prelude.{◌≡◌, ◌<◌, ℕ, Bool, true, false, if◌then◌else◌, IfOk, length};
+ghost use Rattle.std.specs.Prelude.{◌≡◌, ◌<◌, ℕ, Bool, true, false, if◌then◌else◌};
 ghost use Rattle.can_frame.specs.declared.level.Level.{Level};
 ghost use Rattle.can_frame.specs.Levels.{is_recessive};
 ghost use Rattle.can_fault.specs.Counters.{ConfineParts, is_bus_off};
@@ -12,15 +12,14 @@ ghost use Rattle.can_gates_mac.specs.StepParts.{Recovers};
 use crate::nibble::Nibble;
 use crate::senses::Places;
 use can_gates::{Circuit, FALSE, Literal};
-use std::alloc::{AllocError, Global};
 
 /// What a level makes of recovery.
-#[derive(Drop)]
+#[derive(Clone, Copy)]
 pub(crate) struct Recovery {
     /// How many recessive levels stand in a row since the last occurrence of eleven.
     pub(crate) row: Nibble,
     /// How many occurrences there were.
-    pub(crate) occurrences: Vec<Literal>,
+    pub(crate) occurrences: [Literal; 7],
     /// Whether this was the 128th.
     pub(crate) ended: Literal,
 }
@@ -28,24 +27,23 @@ pub(crate) struct Recovery {
 /// A level off the bus.
 pub(crate) fn recover(
     circuit: &mut Circuit,
-    alloc: Global,
     places: &Places,
     seen: Literal,
-    occurrences: &[Literal],
-) -> Result<Recovery, AllocError>
-    requires { length occurrences.now ≡ 7 }
-    ensures { IfOk result (λ r. (length r.occurrences.items ≡ 7) × Makes circuit.old circuit.new (λ v. (c : ConfineParts) (x : Level) → is_bus_off c ≡ true → c.row < 11 → c.occurrences < 128 → IsPlaced v places.now c.row → value v seen ≡ is_recessive x → number v occurrences.now ≡ c.occurrences → Recovers v r.row r.occurrences.items r.ended c x)) }
+    occurrences: &[Literal; 7],
+) -> Recovery
+    ensures { Makes circuit.old circuit.new (λ v. (c : ConfineParts) (x : Level) → is_bus_off c ≡ true → c.row < 11 → c.occurrences < 128 → IsPlaced v places.now c.row → value v seen ≡ is_recessive x → number v occurrences.now ≡ c.occurrences → Recovers v result.row result.occurrences result.ended c x) }
 {
     let late = places.below_10.opposite();
     let early = circuit.and(seen, places.below_10);
     let full = circuit.and(seen, late);
     let row = Nibble::choose(circuit, early, places.next, Nibble::of(0));
-    let sum = circuit.add(alloc, occurrences, &[full], FALSE)?;
-    Ok(Recovery {
+    let mut ended = FALSE;
+    let occurrences = circuit.add(occurrences, &[full], &mut ended);
+    Recovery {
         row,
-        occurrences: sum.word,
-        ended: sum.carry,
-    })
+        occurrences,
+        ended,
+    }
 }
 
 /// The phase off the bus, or idle where it has ended.

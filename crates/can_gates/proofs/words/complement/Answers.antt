@@ -1,21 +1,25 @@
-use Rattle.std.proofs.Common.{rules, arith, length, max, add-one, ◌≡◌, ◌∙◌}
-use Rattle.std.proofs.lemmas.List.{take_all}
-use Rattle.can_gates.proofs.WordPlaces.{complement_place}
+use Rattle.std.proofs.Common.{arith, set, take, get_or, suc, length, add-one, refl, ◌≡◌, ◌<◌, ◌∙◌}
+use Rattle.std.proofs.lemmas.List.{take_all, length-set}
+use Rattle.can_gates.proofs.Constants.{never}
+use Rattle.can_gates.proofs.WordPlaces.{set_place, taken, complement_place}
 use Rattle.can_gates.proofs.words.complement.Goals as goal
 
 pub loop-place-preserved : goal.loop-place-preserved
-loop-place-preserved c =
-    let l = c.loop-place in (
-      search rules,
-      λ v zero_is.
-          rw (add-one l.place) (complement_place v zero_is l.all.items c.push.new.self.items c.args.word.now c.literal_at.result c.opposite-level.result l.place c.in_ok-push.ensures.items l.invariant.0 c.literal_at.ensures (c.opposite-level.ensures v) (l.invariant.1 v zero_is)),
-    )
-
-pub returns : goal.returns
-returns c =
+loop-place-preserved g c =
     let l = c.loop-place in
     let word = c.args.word.now in
-    let e : l.place ≡ max (length word) c.args.least = omega (arith, c.loop-place-test.false, l.auto.place-end, c.max-places.ensures) in (
-      l.invariant.0 ∙ e,
-      λ v zero_is. rw (l.invariant.0) (rw (take_all l.place word (omega (arith, e))) at (l.invariant.1 v zero_is)),
+    let within : l.place < length l.all = omega (arith, c.loop-place-test.true, l.auto.place-end, l.invariant.0) in (
+      length-set l.all l.place c.opposite.result ∙ l.invariant.0,
+      λ v zero_is.
+          rw (add-one l.place) (complement_place v zero_is (take l.place l.all) (take (suc l.place) (set l.all l.place c.opposite.result)) word (get_or word l.place never) c.opposite.result l.place (set_place l.all l.place c.opposite.result within) (taken l.all l.place within) refl (c.opposite.ensures v) (l.invariant.1 v zero_is)),
     )
+
+pub returns-clause-places : goal.returns-clause-places
+returns-clause-places g c = c.loop-place.invariant.0
+
+pub returns-clause-number : goal.returns-clause-number
+returns-clause-number g c =
+    let l = c.loop-place in
+    let word = c.args.word.now in
+    let e : l.place ≡ g.row.N = omega (arith, c.loop-place-test.false, l.auto.place-end) in
+    λ v zero_is. rw e at (rw (take_all l.place l.all (omega (arith, e, l.invariant.0)), take_all l.place word (omega (arith, e, c.told-word))) at (l.invariant.1 v zero_is))

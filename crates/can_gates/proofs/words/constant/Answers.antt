@@ -1,19 +1,20 @@
-use Rattle.std.proofs.Common.{rules, arith, add-one, ◌≡◌, ◌∙◌}
-use Rattle.can_gates.proofs.WordPlaces.{constant_place, constant_whole}
+use Rattle.std.proofs.Common.{arith, set, take, suc, length, add-one, ◌≡◌, ◌<◌, ◌∙◌}
+use Rattle.std.proofs.lemmas.List.{take_all, length-set}
+use Rattle.can_gates.proofs.WordPlaces.{set_place, taken, constant_place, constant_whole}
 use Rattle.can_gates.proofs.words.constant.Goals as goal
 
 pub loop-place-preserved : goal.loop-place-preserved
-loop-place-preserved c =
-    let l = c.loop-place in (
-      search rules,
+loop-place-preserved g c =
+    let l = c.loop-place in
+    let within : l.place < length l.word = omega (arith, c.loop-place-test.true, l.auto.place-end, l.invariant.0) in (
+      length-set l.word l.place c.lowest.result ∙ l.invariant.0,
       λ v zero_is.
-          rw (add-one l.place) (constant_place v l.word.items c.push.new.self.items c.lowest.result l.place l.rest c.args.of c.in_ok-push.ensures.items l.invariant.0 (c.lowest.ensures v zero_is) (l.invariant.1 v zero_is)),
+          rw (add-one l.place) (constant_place v (take l.place l.word) (take (suc l.place) (set l.word l.place c.lowest.result)) c.lowest.result l.place l.rest c.args.of (set_place l.word l.place c.lowest.result within) (taken l.word l.place within) (c.lowest.ensures v zero_is) (l.invariant.1 v zero_is)),
     )
 
 pub returns : goal.returns
-returns c =
+returns g c =
     let l = c.loop-place in
-    let e : l.place ≡ c.args.places = omega (arith, c.loop-place-test.false, l.auto.place-end) in (
-      l.invariant.0 ∙ e,
-      λ v zero_is. constant_whole v l.word.items c.args.places l.rest c.args.of (l.invariant.0 ∙ e) (rw e at (l.invariant.1 v zero_is)),
-    )
+    let e : l.place ≡ g.row.N = omega (arith, c.loop-place-test.false, l.auto.place-end) in
+    let whole = take_all l.place l.word (omega (arith, e, l.invariant.0)) in
+    λ v zero_is. rw e at (constant_whole v l.word l.place l.rest c.args.of (l.invariant.0 ∙ omega (arith, e)) (rw whole at (l.invariant.1 v zero_is)))

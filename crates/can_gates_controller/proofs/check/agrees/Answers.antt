@@ -14,7 +14,7 @@ loop-place-preserved c =
       λ v keeps.
           let some = c.or-some.ensures.1 v keeps in
           let before = l.invariant.1 v some.0 in
-          (before.0, rw (add-one l.place) (some.1 ∙ rw (before.1, c.literal_at-level.ensures) refl)),
+          (before.0, rw (add-one l.place) (some.1 ∙ rw before.1 refl)),
     )
 
 pub returns : goal.returns

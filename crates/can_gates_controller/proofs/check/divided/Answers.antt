@@ -1,4 +1,5 @@
-use Rattle.std.proofs.Common.{◌≡◌, ◌∙◌, ◌++◌, ◌∷◌, [], sym, rules, arith}
+use Rattle.std.proofs.Common.{◌≡◌, ◌∙◌, ◌++◌, ◌∷◌, [], sym, arith, length, ◌<◌}
+use Rattle.std.proofs.lemmas.List.{length-set}
 use Rattle.can_frame.specs.Levels.{is_recessive}
 use Rattle.can_wire.specs.Crc.{crc_of}
 use Rattle.can_wire.specs.Layout.{level_at}
@@ -9,18 +10,19 @@ use Rattle.can_gates_controller.proofs.check.divided.Goals as goal
 
 pub loop-place-preserved : goal.loop-place-preserved
 loop-place-preserved c =
-    let l = c.loop-place in (
-      search rules,
+    let l = c.loop-place in
+    let within : l.place < length l.all = omega (arith, c.loop-place-test.true, l.auto.place-end, l.invariant.0) in (
+      length-set l.all l.place c.xor.result ∙ l.invariant.0,
       (
-        c.xor-level.ensures.0 ∙ l.invariant.1.0,
+        c.xor.ensures.0 ∙ l.invariant.1.0,
         λ v keeps.
-            let level = c.xor-level.ensures.1 v keeps in
+            let level = c.xor.ensures.1 v keeps in
             let before = l.invariant.1.1 v level.0 in
             let zero_is = zero-kept v c.args.circuit.now before.0 in (
               before.0,
               λ u x held fed p h.
                   let is = level.1 ∙ rw (c.next_place-moved.ensures v u zero_is held, c.term_of-term.ensures v zero_is, fed) (sym (crc_step u x l.place)) in
-                  written_place v (λ q. is_recessive (level_at (crc_of (u ++ x ∷ [])) q)) l.all.items c.push.new.self.items c.xor-level.result l.place p c.in_ok-push.ensures.items l.invariant.0 is (λ q below. before.1 u x held fed q below) h,
+                  written_place v (λ q. is_recessive (level_at (crc_of (u ++ x ∷ [])) q)) l.all c.xor.result l.place p within is (λ q below. before.1 u x held fed q below) h,
             ),
       ),
     )

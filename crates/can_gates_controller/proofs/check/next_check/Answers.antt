@@ -5,9 +5,9 @@ use Rattle.can_gates_controller.proofs.check.next_check.Goals as goal
 
 pub returns : goal.returns
 returns c = (
-  c.in_ok-made.ensures.0 ∙ c.in_ok-more.ensures.0,
+  c.choose_levels.ensures.levels.0 ∙ c.divide-more.ensures.0,
   λ v keeps.
-      let made = c.in_ok-made.ensures.1 v keeps in
-      let more = c.in_ok-more.ensures.1 v made.0 in
-      (more.0, λ u x held is p h. made.1 p h ∙ rw c.deref.ensures.value (chosen_check (value v c.args.plain) (u ++ x ∷ []) u p _ _ (more.1 u x held is p h) (held p h))),
+      let made = c.choose_levels.ensures.levels.1 v keeps in
+      let more = c.divide-more.ensures.1 v made.0 in
+      (more.0, λ u x held is p h. made.1 p h ∙ chosen_check (value v c.args.plain) (u ++ x ∷ []) u p _ _ (more.1 u x held is p h) (held p h)),
 )

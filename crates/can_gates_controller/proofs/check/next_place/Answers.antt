@@ -9,4 +9,4 @@ pub returns-then-place-eq14 : goal.returns-then-place-eq14
 returns-then-place-eq14 c = λ v u zero_is held. value-never v zero_is ∙ ap is_recessive (sym (crc_past u (c.args.place + 1) (omega (arith, c.if-place-eq14.true))))
 
 pub returns : goal.returns
-returns c = λ v u zero_is held. ap (value v) c.literal_at.ensures ∙ held (c.args.place + 1) (omega (arith, c.requires, c.if-place-eq14.false))
+returns c = λ v u zero_is held. held (c.args.place + 1) (omega (arith, c.requires, c.if-place-eq14.false))

@@ -8,5 +8,5 @@ use Rattle.can_gates_controller.proofs.fields.clear_behind.Given as goal
 -- what the place p becomes
 abbrev pub invariant-loop-place : goal.invariant-loop-place
 invariant-loop-place l =
-    (length l.all.items ≡ l.place)
-    × Makes l.fn.circuit l.circuit (λ v. (p : ℕ) → p < l.place → value v (get_or l.all.items p never) ≡ (nat_lt (p / 8) (byte_count (value v l.fn.remote) (nibble v l.fn.dlc)) && value v (get_or l.bytes p never)))
+    (length l.all ≡ 64)
+    × Makes l.fn.circuit l.circuit (λ v. (p : ℕ) → p < l.place → value v (get_or l.all p never) ≡ (nat_lt (p / 8) (byte_count (value v l.fn.remote) (nibble v l.fn.dlc)) && value v (get_or l.bytes p never)))

@@ -10,10 +10,10 @@ use Rattle.can_gates_controller.proofs.front.frame_length.Goals as goal
 
 pub returns : goal.returns
 returns c = (
-  c.in_ok-sum.ensures.1.0 ∙ c.in_ok-least.ensures.1.0 ∙ c.and-one.ensures.0 ∙ c.and-two.ensures.0 ∙ c.and-four.ensures.0 ∙ c.and-few.ensures.0 ∙ c.and-eight.ensures.0 ∙ c.ite-ones.ensures.0 ∙ c.ite-twos.ensures.0 ∙ c.ite-fours.ensures.0 ∙ c.ite-eights.ensures.0 ∙ c.ite-remote.ensures.0,
+  c.add.ensures.0 ∙ c.choose-least.ensures.0 ∙ c.and-one.ensures.0 ∙ c.and-two.ensures.0 ∙ c.and-four.ensures.0 ∙ c.and-few.ensures.0 ∙ c.and-eight.ensures.0 ∙ c.ite-ones.ensures.0 ∙ c.ite-twos.ensures.0 ∙ c.ite-fours.ensures.0 ∙ c.ite-eights.ensures.0 ∙ c.ite-remote.ensures.0,
   λ v keeps.
-      let sum = c.in_ok-sum.ensures.1.1 v keeps in
-      let least = c.in_ok-least.ensures.1.1 v sum.0 in
+      let sum = c.add.ensures.1 v keeps in
+      let least = c.choose-least.ensures.1 v sum.0 in
       let one = c.and-one.ensures.1 v least.0 in
       let two = c.and-two.ensures.1 v one.0 in
       let four = c.and-four.ensures.1 v two.0 in
@@ -29,17 +29,15 @@ returns c = (
         remote.0,
         λ u held.
             let at : (p : ℕ) → p < 103 → value v (get_or c.args.levels.now p never) ≡ is_recessive (level_at u p) = held in
-            let long : length c.in_ok-sum.sum.word.items ≡ 7 = omega (arith, c.in_ok-sum.ensures.0, ap length c.deref-3.ensures.value, c.in_ok-least.ensures.0, ap length c.deref.ensures.value, ap length c.deref-2.ensures.value, c.in_ok-long.ensures.0, c.in_ok-short.ensures.0) in
-            let small = rw long at (number-lt v c.in_ok-sum.sum.word.items) in
-            let extended = ap (value v) c.literal_at-extended.ensures ∙ at 13 (omega arith) in
-            length_is u (value v c.literal_at-extended.result) (value v c.ite-remote.result) (value v c.ite-eights.result) (value v c.ite-fours.result) (value v c.ite-twos.result) (value v c.ite-ones.result) (value v c.and-few.result) (number v c.in_ok-sum.sum.word.items) (bit (value v c.in_ok-sum.sum.carry)) extended
-            (remote.1 ∙ rw (c.literal_at.ensures, c.literal_at-2.ensures, at 32 (omega arith), at 12 (omega arith)) refl)
-            (eights.1 ∙ rw (c.literal_at-3.ensures, c.literal_at-4.ensures, at 35 (omega arith), at 15 (omega arith)) refl)
-            (fours.1 ∙ rw (c.literal_at-5.ensures, c.literal_at-6.ensures, at 36 (omega arith), at 16 (omega arith)) refl)
-            (twos.1 ∙ rw (c.literal_at-7.ensures, c.literal_at-8.ensures, at 37 (omega arith), at 17 (omega arith)) refl)
-            (ones.1 ∙ rw (c.literal_at-9.ensures, c.literal_at-10.ensures, at 38 (omega arith), at 18 (omega arith)) refl)
+            let small = number-lt v c.add.result in
+            length_is u (value v (get_or c.args.levels.now 13 never)) (value v c.ite-remote.result) (value v c.ite-eights.result) (value v c.ite-fours.result) (value v c.ite-twos.result) (value v c.ite-ones.result) (value v c.and-few.result) (number v c.add.result) (bit (value v c.add.new.carry)) (at 13 (omega arith))
+            (remote.1 ∙ rw (at 32 (omega arith), at 12 (omega arith)) refl)
+            (eights.1 ∙ rw (at 35 (omega arith), at 15 (omega arith)) refl)
+            (fours.1 ∙ rw (at 36 (omega arith), at 16 (omega arith)) refl)
+            (twos.1 ∙ rw (at 37 (omega arith), at 17 (omega arith)) refl)
+            (ones.1 ∙ rw (at 38 (omega arith), at 18 (omega arith)) refl)
             (few.1 ∙ rw (c.opposite-2.ensures v, c.opposite-3.ensures v) refl)
-            (rw (long, no, one.1, two.1, four.1, eight.1, c.opposite.ensures v, c.deref-3.ensures.value, least.1, c.deref.ensures.value, c.deref-2.ensures.value, c.in_ok-long.ensures.1 v zero_is, c.in_ok-short.ensures.1 v zero_is) at sum.1 ∙ omega arith)
+            (rw (no, one.1, two.1, four.1, eight.1, c.opposite.ensures v, least.1, c.constant-long.ensures v zero_is, c.constant-short.ensures v zero_is) at sum.1 ∙ omega arith)
             small,
       ),
 )

@@ -8,26 +8,24 @@ use Rattle.can_gates_controller.proofs.front.hear.Goals as goal
 
 pub returns : goal.returns
 returns c = (
-  c.in_ok-check.ensures.0 ∙ c.in_ok-count.ensures.1.0 ∙ c.in_ok-levels.ensures.0 ∙ c.and-level.ensures.0 ∙ c.stuffing-stuffing.ensures.0,
+  c.next_check-check.ensures.0 ∙ c.raised-count.ensures.0 ∙ c.written-levels.ensures.0 ∙ c.and-level.ensures.0 ∙ c.stuffing-stuffing.ensures.0,
   λ v keeps.
-      let check = c.in_ok-check.ensures.1 v keeps in
-      let count = c.in_ok-count.ensures.1.1 v check.0 in
-      let levels = c.in_ok-levels.ensures.1 v count.0 in
+      let check = c.next_check-check.ensures.1 v keeps in
+      let count = c.raised-count.ensures.1 v check.0 in
+      let levels = c.written-levels.ensures.1 v count.0 in
       let level = c.and-level.ensures.1 v levels.0 in
       let stuffing = c.stuffing-stuffing.ensures.1 v level.0 in (
         stuffing.0,
         λ front x held few short seen.
-            let old = c.args.heard.now in
             let stuff = stuffing.1 front x held.run few seen in
             let plain = c.opposite-plain.ensures v ∙ ap not stuff.0 in
             let is_level = rw (plain, seen) at level.1 in
-            let long : length c.in_ok-count.count.items ≡ 7 = omega (arith, c.in_ok-count.ensures.0, ap length c.deref-3.ensures.value, old.count.ok, old.width) in
             record {
               next = record {
-                levels = λ p h. levels.1 p h ∙ rw (c.deref.ensures.value, c.deref-2.ensures.value, held.levels p h, held.count, is_level) (heard_place front x (eqb front.run 5) p refl);
-                count = count.1 ∙ rw (long, c.deref-3.ensures.value, held.count, plain) (heard_count front x (eqb front.run 5) refl short);
+                levels = λ p h. levels.1 p h ∙ rw (held.levels p h, held.count, is_level) (heard_place front x (eqb front.run 5) p refl);
+                count = count.1 ∙ rw (held.count, plain) (heard_count front x (eqb front.run 5) refl short);
                 run = stuff.1.1;
-                check = subst (λ u. HoldsCheck v c.in_ok-check.check.items u) (rw plain (heard_unstuffed front x (eqb front.run 5) refl)) (check.1 front.unstuffed x (λ p h. ap (λ items. value v (get_or items p never)) c.deref-4.ensures.value ∙ held.check p h) seen);
+                check = subst (λ u. HoldsCheck v c.next_check-check.result u) (rw plain (heard_unstuffed front x (eqb front.run 5) refl)) (check.1 front.unstuffed x held.check seen);
               };
               due = stuff.0;
               repeats = stuff.1.0;

@@ -1,4 +1,5 @@
-use Rattle.std.proofs.Common.{◌≡◌, ◌%◌, ◌^◌, ◌∙◌, get_or, refl, rules, arith}
+use Rattle.std.proofs.Common.{◌≡◌, ◌%◌, ◌^◌, ◌∙◌, get_or, refl, arith, length, ◌<◌}
+use Rattle.std.proofs.lemmas.List.{length-set}
 use Rattle.std.specs.Prelude.{◌==◌, ◌&&◌, ◌||◌}
 use Rattle.can_gates.specs.Circuit.{value}
 use Rattle.can_gates.specs.Words.{number}
@@ -9,20 +10,21 @@ use Rattle.can_gates_controller.proofs.front.written.Goals as goal
 pub loop-place-preserved : goal.loop-place-preserved
 loop-place-preserved c =
     let l = c.loop-place in
+    let within : l.place < length l.all = omega (arith, c.loop-place-test.true, l.auto.place-end, l.invariant.0) in
     let count = c.args.count.now in
     let levels = c.args.levels.now in (
-      search rules,
+      length-set l.all l.place c.or.result ∙ l.invariant.0,
       (
-        c.or-both.ensures.0 ∙ c.and-new.ensures.0 ∙ c.equals-here.ensures.0 ∙ l.invariant.1.0,
+        c.or.ensures.0 ∙ c.and-new.ensures.0 ∙ c.equals-here.ensures.0 ∙ l.invariant.1.0,
         λ v keeps.
-            let both = c.or-both.ensures.1 v keeps in
+            let both = c.or.ensures.1 v keeps in
             let new = c.and-new.ensures.1 v both.0 in
             let here = c.equals-here.ensures.1 v new.0 in
             let before = l.invariant.1.1 v here.0 in
             let zero_is = zero-kept v c.args.circuit.now before.0 in
-            let low : l.place % 2 ^ 7 ≡ l.place = omega (arith, c.loop-place-test.true) in
-            let is = both.1 ∙ rw (new.1, here.1, c.deref.ensures.value, c.in_ok-number.ensures.1 v zero_is, low, c.literal_at.ensures) refl in
-            (before.0, λ p h. written_place v (λ q. value v (get_or levels q never) || ((number v count == q) && value v c.args.level)) l.all.items c.push.new.self.items c.or-both.result l.place p c.in_ok-push.ensures.items l.invariant.0 is before.1 h),
+            let low : l.place % 2 ^ 7 ≡ l.place = omega (arith, c.loop-place-test.true, l.auto.place-end) in
+            let is = both.1 ∙ rw (new.1, here.1, c.constant-number.ensures v zero_is, low) refl in
+            (before.0, λ p h. written_place v (λ q. value v (get_or levels q never) || ((number v count == q) && value v c.args.level)) l.all c.or.result l.place p within is before.1 h),
       ),
     )
 

@@ -5,12 +5,12 @@ use Rattle.can_gates_controller.proofs.hearing.step_hearing.Goals as goal
 
 pub returns : goal.returns
 returns c = (
-  c.in_ok-made.ensures.0 ∙ c.in_ok-behind.ensures.0 ∙ c.in_ok-next.ensures.0 ∙ c.in_ok-within.ensures.0,
+  c.step-made.ensures.0 ∙ c.follow-behind.ensures.0 ∙ c.read.ensures.0 ∙ c.within-within.ensures.0,
   λ v keeps.
-      let made = c.in_ok-made.ensures.1 v keeps in
-      let behind = c.in_ok-behind.ensures.1 v made.0 in
-      let read = c.in_ok-next.ensures.1 v behind.0 in
-      let within = c.in_ok-within.ensures.1 v read.0 in (
+      let made = c.step-made.ensures.1 v keeps in
+      let behind = c.follow-behind.ensures.1 v made.0 in
+      let read = c.read.ensures.1 v behind.0 in
+      let within = c.within-within.ensures.1 v read.0 in (
         within.0,
         λ m waiting x is_mac frame held hears sees.
             let follows = bit_time_follows m waiting x in (

@@ -20,6 +20,6 @@ returns c = (
       let some = c.less-some.ensures.1 v over.0 in
       let zero_is = zero-kept v c.args.circuit.now some.0 in (
         some.0,
-        λ front goes held long. made.1 ∙ rw (fits.1, counted.1, runs.1, c.opposite.ensures v, c.opposite-2.ensures v, c.opposite-3.ensures v, ended.1, whole.1, plain.1, few.1, none.1, over.1, some.1, c.deref.ensures.value, c.deref-2.ensures.value, c.deref-3.ensures.value, long, held.count, held.run.run, value-never v zero_is) (going_fits front goes),
+        λ front goes held long. made.1 ∙ rw (fits.1, counted.1, runs.1, c.opposite.ensures v, c.opposite-2.ensures v, c.opposite-3.ensures v, ended.1, whole.1, plain.1, few.1, none.1, over.1, some.1, long, held.count, held.run.run, value-never v zero_is) (going_fits front goes),
       ),
 )

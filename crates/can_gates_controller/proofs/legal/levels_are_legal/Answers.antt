@@ -10,7 +10,7 @@ loop-place-init c = (
   refl,
   λ v keeps.
       let zero_is = zero-kept v c.args.circuit.now keeps in
-      (keeps, (value-never v zero_is ∙ sym (above_is (number v c.args.heard.now.count.items) 0 (omega arith)), λ u levels count. value-always v zero_is)),
+      (keeps, (value-never v zero_is ∙ sym (above_is (number v c.args.heard.now.count) 0 (omega arith)), λ u levels count. value-always v zero_is)),
 )
 
 pub loop-place-preserved : goal.loop-place-preserved
@@ -25,10 +25,10 @@ loop-place-preserved c =
           let here = c.equals-here.ensures.1 v behind.0 in
           let before = l.invariant.1 v here.0 in
           let zero_is = zero-kept v c.args.circuit.now before.0 in
-          let low : l.place % 2 ^ 7 ≡ l.place = omega (arith, c.loop-place-test.true) in
-          let past = behind.1 ∙ rw (before.1.0, here.1, c.deref.ensures.value, c.deref-in-loop-place.ensures.value, c.in_ok-number.ensures.1 v zero_is, low) (behind_more (number v heard.count.items) l.place) in (
+          let low : l.place % 2 ^ 7 ≡ l.place = omega (arith, c.loop-place-test.true, l.auto.place-end) in
+          let past = behind.1 ∙ rw (before.1.0, here.1, c.constant-number.ensures v zero_is, low) (behind_more (number v heard.count) l.place) in (
             before.0,
-            (past, λ u levels count. legal.1 ∙ rw (before.1.1 u levels count, c.opposite.ensures v, wrong.1, past, count, c.literal_at-level.ensures, c.deref-in-loop-place-2.ensures.value, levels l.place (omega (arith, c.loop-place-test.true))) (dominant_behind u l.place)),
+            (past, λ u levels count. legal.1 ∙ rw (before.1.1 u levels count, c.opposite.ensures v, wrong.1, past, count, levels l.place (omega (arith, c.loop-place-test.true, l.auto.place-end))) (dominant_behind u l.place)),
           ),
     )
 

@@ -7,9 +7,9 @@ use Rattle.can_gates_controller.proofs.legal.marks_are_legal.Goals as goal
 pub returns : goal.returns
 unfolding nibble
 returns c = (
-  c.in_ok-made.ensures.0 ∙ c.and-none.ensures.0 ∙ c.and-no_flag.ensures.0,
+  c.select.ensures.0 ∙ c.and-none.ensures.0 ∙ c.and-no_flag.ensures.0,
   λ v keeps.
-      let made = c.in_ok-made.ensures.1 v keeps in
+      let made = c.select.ensures.1 v keeps in
       let none = c.and-none.ensures.1 v made.0 in
       let no_flag = c.and-no_flag.ensures.1 v none.0 in
       let is_no_flag = no_flag.1 ∙ rw (c.opposite.ensures v, c.opposite-2.ensures v) refl in

@@ -1,4 +1,5 @@
-use Rattle.std.proofs.Common.{◌≡◌, ◌∙◌, get_or, refl, rules, arith}
+use Rattle.std.proofs.Common.{◌≡◌, ◌∙◌, get_or, refl, arith, length, ◌<◌}
+use Rattle.std.proofs.lemmas.List.{length-set}
 use Rattle.std.specs.Prelude.{if◌then◌else◌}
 use Rattle.can_gates.specs.Circuit.{value}
 use Rattle.can_gates.proofs.Constants.{never}
@@ -6,25 +7,29 @@ use Rattle.can_gates_controller.proofs.FrontPlaces.{written_place}
 use Rattle.can_gates_controller.proofs.levels.choose_levels.Goals as goal
 
 pub loop-place-preserved : goal.loop-place-preserved
-loop-place-preserved c =
+loop-place-preserved g c =
     let l = c.loop-place in
+    let within : l.place < length l.all = omega (arith, c.loop-place-test.true, l.auto.place-end, l.invariant.0) in
     let a = c.args.a.now in
     let b = c.args.b.now in (
-      search rules,
+      length-set l.all l.place c.ite.result ∙ l.invariant.0,
       (
-        c.ite-level.ensures.0 ∙ l.invariant.1.0,
+        c.ite.ensures.0 ∙ l.invariant.1.0,
         λ v keeps.
-            let level = c.ite-level.ensures.1 v keeps in
+            let level = c.ite.ensures.1 v keeps in
             let before = l.invariant.1.1 v level.0 in
             let is = level.1 ∙ rw (c.literal_at-first.ensures, c.literal_at-other.ensures) refl in
-            (before.0, λ p h. written_place v (λ q. if value v c.args.test then value v (get_or a q never) else value v (get_or b q never)) l.all.items c.push.new.self.items c.ite-level.result l.place p c.in_ok-push.ensures.items l.invariant.0 is before.1 h),
+            (before.0, λ p h. written_place v (λ q. if value v c.args.test then value v (get_or a q never) else value v (get_or b q never)) l.all c.ite.result l.place p within is before.1 h),
       ),
     )
 
-pub returns : goal.returns
-returns c =
+pub returns-clause-places : goal.returns-clause-places
+returns-clause-places g c = c.loop-place.invariant.0
+
+pub returns-clause-levels : goal.returns-clause-levels
+returns-clause-levels g c =
     let l = c.loop-place in
-    let e : l.place ≡ c.args.places = omega (arith, c.loop-place-test.false, l.auto.place-end) in (
+    let e : l.place ≡ g.row.N = omega (arith, c.loop-place-test.false, l.auto.place-end) in (
       l.invariant.1.0,
       λ v keeps.
           let whole = l.invariant.1.1 v keeps in

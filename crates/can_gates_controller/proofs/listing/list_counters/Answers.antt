@@ -2,4 +2,4 @@ use Rattle.std.proofs.Common.{refl}
 use Rattle.can_gates_controller.proofs.listing.list_counters.Goals as goal
 
 pub returns : goal.returns
-returns c = rw (c.in_ok-push_places-3.ensures, c.in_ok-push_places-2.ensures, c.in_ok-push_places.ensures, c.new-all.ensures.items, c.deref.ensures.value, c.deref-2.ensures.value, c.deref-3.ensures.value) refl
+returns c = rw (c.in_ok-push_places-3.ensures, c.in_ok-push_places-2.ensures, c.in_ok-push_places.ensures, c.new-all.ensures.items) refl

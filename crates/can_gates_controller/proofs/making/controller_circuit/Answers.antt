@@ -9,26 +9,23 @@ use Rattle.can_gates_controller.proofs.making.controller_circuit.Goals as goal
 
 pub returns-clause-starts : goal.returns-clause-starts
 returns-clause-starts c =
-    let long = ap length c.deref.ensures.value ∙ c.in_ok-next.ensures.0 in
-    let many = c.in_ok-registers.ensures.0 ∙ long in
-    let inputs = c.in_ok-next.ensures.1.0 ∙ ap (λ (k : CircuitParts). k.inputs) c.new-circuit.ensures in
-    λ v starts. reset_holds v c.in_ok-held.held false (list_resets v c.in_ok-held.held false (λ p h. starts_are c.in_ok-registers.registers.items c.step.new.circuit _ c.in_ok-held.held many inputs c.in_ok-held.ensures long c.in_ok-registers.ensures.1 v starts p h ∙ not_first (eqb p 0)))
+    let many = c.in_ok-registers.ensures.0 ∙ c.in_ok-step.ensures.0 in
+    let inputs = c.in_ok-step.ensures.1.0 ∙ ap (λ (k : CircuitParts). k.inputs) c.new-circuit.ensures in
+    λ v starts. reset_holds v c.registers-held.result false (list_resets v c.registers-held.result false (λ p h. starts_are c.in_ok-registers.registers.items c.step.new.circuit _ c.registers-held.result many inputs c.registers-held.ensures long c.in_ok-registers.ensures.1 v starts p h ∙ not_first (eqb p 0)))
 
 pub returns-clause-resets : goal.returns-clause-resets
 returns-clause-resets c =
-    let long = ap length c.deref.ensures.value ∙ c.in_ok-next.ensures.0 in
-    let many = c.in_ok-registers.ensures.0 ∙ long in
-    let inputs = c.in_ok-next.ensures.1.0 ∙ ap (λ (k : CircuitParts). k.inputs) c.new-circuit.ensures in
-    λ before now keeps reset steps. (c.in_ok-next.ensures.1.1 before keeps).1.0 now reset (rw c.deref.ensures.value at (steps_are c.in_ok-registers.registers.items c.step.new.circuit _ c.in_ok-held.held many inputs c.in_ok-held.ensures long c.in_ok-registers.ensures.1 before now steps))
+    let many = c.in_ok-registers.ensures.0 ∙ c.in_ok-step.ensures.0 in
+    let inputs = c.in_ok-step.ensures.1.0 ∙ ap (λ (k : CircuitParts). k.inputs) c.new-circuit.ensures in
+    λ before now keeps reset steps. (c.in_ok-step.ensures.1.1 before keeps).1.0 now reset (rw c.deref.ensures.value at (steps_are c.in_ok-registers.registers.items c.step.new.circuit _ c.registers-held.result many inputs c.registers-held.ensures long c.in_ok-registers.ensures.1 before now steps))
 
 pub returns-clause-steps : goal.returns-clause-steps
 returns-clause-steps c =
-    let long = ap length c.deref.ensures.value ∙ c.in_ok-next.ensures.0 in
-    let many = c.in_ok-registers.ensures.0 ∙ long in
-    let inputs = c.in_ok-next.ensures.1.0 ∙ ap (λ (k : CircuitParts). k.inputs) c.new-circuit.ensures in
+    let many = c.in_ok-registers.ensures.0 ∙ c.in_ok-step.ensures.0 in
+    let inputs = c.in_ok-step.ensures.1.0 ∙ ap (λ (k : CircuitParts). k.inputs) c.new-circuit.ensures in
     λ before m keeps held.
-    let now = (c.in_ok-next.ensures.1.1 before keeps).1.1 m held in
-    (now.0, λ after steps. now.1 after (rw c.deref.ensures.value at (steps_are c.in_ok-registers.registers.items c.step.new.circuit _ c.in_ok-held.held many inputs c.in_ok-held.ensures long c.in_ok-registers.ensures.1 before after steps)))
+    let now = (c.in_ok-step.ensures.1.1 before keeps).1.1 m held in
+    (now.0, λ after steps. now.1 after (rw c.deref.ensures.value at (steps_are c.in_ok-registers.registers.items c.step.new.circuit _ c.registers-held.result many inputs c.registers-held.ensures long c.in_ok-registers.ensures.1 before after steps)))
 
 pub returns-clause-runs : goal.returns-clause-runs
 returns-clause-runs c = runs_alike _ (returns-clause-steps c)
@@ -37,7 +34,7 @@ pub returns-clause-ports : goal.returns-clause-ports
 returns-clause-ports c = record {
   inputs = c.in_ok-next.ensures.1.0 ∙ ap (λ (k : CircuitParts). k.inputs) c.new-circuit.ensures;
   registers = c.in_ok-registers.ensures.0 ∙ ap length c.deref.ensures.value ∙ c.in_ok-next.ensures.0;
-  comes = c.in_ok-inputs.ensures;
-  held = c.in_ok-held.ensures;
+  comes = c.input_ports-inputs.ensures;
+  held = c.registers-held.ensures;
   goes = c.in_ok-listed.ensures;
 }

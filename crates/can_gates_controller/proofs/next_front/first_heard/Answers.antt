@@ -6,8 +6,8 @@ use Rattle.can_gates_controller.proofs.next_front.first_heard.Goals as goal
 
 pub returns : goal.returns
 returns c = λ v zero_is. record {
-  levels = λ p h. ap (λ items. value v (get_or items p never)) c.new-levels.ensures.items ∙ first_level v zero_is p;
-  count = c.in_ok-count.ensures.1 v zero_is;
+  levels = λ p h. first_level v zero_is p;
+  count = c.constant.ensures v zero_is;
   run = record { last = value-never v zero_is; run = c.of.ensures v zero_is };
-  check = λ p h. ap (λ items. value v (get_or items p never)) c.new-check.ensures.items ∙ first_check v zero_is p;
+  check = λ p h. first_check v zero_is p;
 }

@@ -5,10 +5,10 @@ use Rattle.can_gates_controller.proofs.next_front.follow.Goals as goal
 
 pub returns : goal.returns
 returns c = (
-  c.in_ok-made.ensures.0 ∙ c.in_ok-kept.ensures.0,
+  c.choose_heard.ensures.0 ∙ c.choose_heard-kept.ensures.0,
   λ v keeps.
-      let made = c.in_ok-made.ensures.1 v keeps in
-      let kept = c.in_ok-kept.ensures.1 v made.0 in
+      let made = c.choose_heard.ensures.1 v keeps in
+      let kept = c.choose_heard-kept.ensures.1 v made.0 in
       let zero_is = zero-kept v c.args.circuit.now kept.0 in
-      (kept.0, λ p q role new waiting x within held hears is. followed v c.in_ok-made.made c.in_ok-kept.kept c.in_ok-first.first c.args.heard.now c.args.next.now c.args.within p q role new waiting x within held hears is made.1 kept.1 (c.in_ok-first.ensures v zero_is)),
+      (kept.0, λ p q role new waiting x within held hears is. followed v c.choose_heard.result c.choose_heard-kept.result c.first_heard-first.result c.args.heard.now c.args.next.now c.args.within p q role new waiting x within held hears is made.1 kept.1 (c.first_heard-first.ensures v zero_is)),
 )

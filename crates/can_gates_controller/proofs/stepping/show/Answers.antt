@@ -10,9 +10,9 @@ use Rattle.can_gates_controller.proofs.stepping.show.Goals as goal
 
 pub returns : goal.returns
 returns c = (
-  c.in_ok-legal.ensures.0 ∙ c.is_passive-passive.ensures.0 ∙ c.in_ok-frame.ensures.0 ∙ c.choose-told.ensures.0 ∙ c.and-passes.ensures.0,
+  c.is_legal-legal.ensures.0 ∙ c.is_passive-passive.ensures.0 ∙ c.in_ok-frame.ensures.0 ∙ c.choose-told.ensures.0 ∙ c.and-passes.ensures.0,
   λ v keeps.
-      let legal = c.in_ok-legal.ensures.1 v keeps in
+      let legal = c.is_legal-legal.ensures.1 v keeps in
       let passive = c.is_passive-passive.ensures.1 v legal.0 in
       let frame = c.in_ok-frame.ensures.1 v passive.0 in
       let told = c.choose-told.ensures.1 v frame.0 in
@@ -27,9 +27,9 @@ returns c = (
               drive = is.drives ∙ ap is_recessive (drives_asked s.wish m s.waiting);
               told = told.1 ∙ rw (passes.1, enable, c.opposite.ensures v, reset, is.event, c.of.ensures v zero_is) (told_is s.reset s.enable (step_time m s).1);
               frame = λ f e. frame.1 (asked s.wish m) s.waiting s.level f wished (frame_is s.reset s.enable (step_time m s).1 f e);
-              tec = ap (number v) (c.in_ok-tec.ensures.items ∙ c.deref-3.ensures.value) ∙ tec;
-              rec = ap (number v) (c.in_ok-rec.ensures.items ∙ c.deref-4.ensures.value) ∙ rec;
-              passive = passive.1 ∙ rw (c.deref.ensures.value, c.deref-2.ensures.value, tec, rec) refl;
+              tec = tec;
+              rec = rec;
+              passive = passive.1 ∙ rw (tec, rec) refl;
               off = c.is_off.ensures v zero_is ∙ ap (nat_le 256) tec;
               legal = legal.1 m held;
             },

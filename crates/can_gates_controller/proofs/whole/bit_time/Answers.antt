@@ -12,13 +12,13 @@ use Rattle.can_gates_controller.proofs.whole.bit_time.Goals as goal
 
 pub returns : goal.returns
 returns c = (
-  c.in_ok-own.ensures.0 ∙ c.in_ok-within.ensures.0 ∙ c.in_ok-controller.ensures.0 ∙ c.in_ok-recessive.ensures.0 ∙ c.in_ok-sends.ensures.0,
+  c.next_own-own.ensures.0 ∙ c.within-within.ensures.0 ∙ c.step_hearing.ensures.0 ∙ c.drive-recessive.ensures.0 ∙ c.reads-sends.ensures.0,
   λ v keeps.
-      let own = c.in_ok-own.ensures.1 v keeps in
-      let within = c.in_ok-within.ensures.1 v own.0 in
-      let stepped = c.in_ok-controller.ensures.1 v within.0 in
-      let drives = c.in_ok-recessive.ensures.1 v stepped.0 in
-      let sends = c.in_ok-sends.ensures.1 v drives.0 in (
+      let own = c.next_own-own.ensures.1 v keeps in
+      let within = c.within-within.ensures.1 v own.0 in
+      let stepped = c.step_hearing.ensures.1 v within.0 in
+      let drives = c.drive-recessive.ensures.1 v stepped.0 in
+      let sends = c.reads-sends.ensures.1 v drives.0 in (
         sends.0,
         λ m waiting x held offers seen.
             let reads = sends.1 m waiting held offers.waits in
@@ -28,7 +28,7 @@ returns c = (
               agrees = reads.agrees;
               sender = λ front is. record {
                 sent = (reads.part front is).sent;
-                extended = λ f role. c.is_extended.ensures v f (subst IsRole role held.is.role) (λ p h. ap (λ items. value v (get_or items p never)) c.deref.ensures.value ∙ held.own.levels f (ap is_in_frame is) role p h);
+                extended = λ f role. c.is_extended.ensures v f (subst IsRole role held.is.role) (held.own.levels f (ap is_in_frame is) role);
               };
             }) in
             let follows = bit_time_follows m waiting x in record {
@@ -37,7 +37,7 @@ returns c = (
                 settled = step_settled m waiting x held.settled;
                 controller = next_holds v _ _ step.0;
                 heard = step.1;
-                own = own_follows v _ _ _ m waiting x _ _ held.is held.own offers.levels follows.next (λ place h. rw (c.deref-2.ensures.value, c.deref-3.ensures.value) at (own.1 m.phase place (within.1 m.phase held.controller.phase) h));
+                own = own_follows v _ _ _ m waiting x _ _ held.is held.own offers.levels follows.next (λ place h. own.1 m.phase place (within.1 m.phase held.controller.phase) h);
               };
               drives = drives.1 m waiting held.controller reads;
               event = event_is v _ _ step.0;

@@ -11,9 +11,9 @@ use Rattle.can_gates_controller.proofs.whole.reads.Goals as goal
 
 pub returns : goal.returns
 returns c = (
-  c.in_ok-sent.ensures.0 ∙ c.and-due.ensures.0 ∙ c.agrees-agrees.ensures.0,
+  c.next_sent-sent.ensures.0 ∙ c.and-due.ensures.0 ∙ c.agrees-agrees.ensures.0,
   λ v keeps.
-      let sent = c.in_ok-sent.ensures.1 v keeps in
+      let sent = c.next_sent-sent.ensures.1 v keeps in
       let due = c.and-due.ensures.1 v sent.0 in
       let agrees = c.agrees-agrees.ensures.1 v due.0 in (
         agrees.0,
@@ -22,14 +22,14 @@ returns c = (
           agrees = λ r is.
               let told = held.heard.told r is in
               let long : 15 ≤ length told.unstuffed = omega (arith, told.whole, frame_len_ge told.unstuffed) in
-              agrees.1 told.unstuffed long (λ p h. ap (λ items. value v (get_or items p never)) c.deref.ensures.value ∙ told.check p h) ∙ sym (ap (λ q. q.agrees) told.told);
+              agrees.1 told.unstuffed long told.check ∙ sym (ap (λ q. q.agrees) told.told);
           part = λ front is.
               let here = held.heard.front front is in
               let going = is_going m.phase front is held.is.phase in
               let n = c.args.held.now.heard.run in record {
                 due = due.1 ∙ five_bits front.run (value v n.ones) (value v n.twos) (value v n.fours) (value v n.eights) (sym here.run.run ∙ nibble-bits v n) going.front.short;
                 last = here.run.last;
-                sent = λ f role. sent.1 f front (subst IsRole role held.is.role) (λ p h. ap (λ items. value v (get_or items p never)) c.deref-2.ensures.value ∙ held.own.levels f (ap is_in_frame is) role p h) here (held.own.sent f front is role);
+                sent = λ f role. sent.1 f front (subst IsRole role held.is.role) (held.own.levels f (ap is_in_frame is) role) here (held.own.sent f front is role);
               };
         },
       ),

@@ -1,4 +1,4 @@
-use Rattle.std.proofs.Common.{◌≡◌, ◌+◌, ◌*◌, ◌∙◌, length, arith}
+use Rattle.std.proofs.Common.{◌≡◌, ◌+◌, ◌*◌, ◌∙◌, arith}
 use Rattle.can_gates.specs.Circuit.{value}
 use Rattle.can_gates.specs.Words.{number, bit}
 use Rattle.can_gates.proofs.Constants.{zero-kept, value-never}
@@ -9,27 +9,23 @@ use Rattle.can_gates_mac.proofs.recovery.recover.Goals as goal
 
 pub returns : goal.returns
 returns c =
-    let sum_word = c.in_ok-sum.sum.word.items in
-    let long : length sum_word ≡ 7 = omega (arith, c.in_ok-sum.ensures.0, c.requires) in (
-      long,
-      (
-        c.in_ok-sum.ensures.1.0 ∙ c.choose-row.ensures.0 ∙ c.and-full.ensures.0 ∙ c.and-early.ensures.0,
-        λ v keeps.
-            let sum = c.in_ok-sum.ensures.1.1 v keeps in
-            let row = c.choose-row.ensures.1 v sum.0 in
-            let full = c.and-full.ensures.1 v row.0 in
-            let early = c.and-early.ensures.1 v full.0 in
-            let zero_is = zero-kept v c.args.circuit.now early.0 in (
-              early.0,
-              λ parts x off low few places seen held.
-                  let is_early = rw (seen, places.below_10) at early.1 in
-                  let is_full = rw (seen, c.opposite-late.ensures v, places.below_10) at full.1 in
-                  let is_row = rw (c.of.ensures v zero_is) at row.1 in
-                  let one : parts.occurrences + (bit (value v c.and-full.result) + 2 * 0) + 0 ≡ parts.occurrences + bit (value v c.and-full.result) = omega arith in
-                  let is_sum = rw (long, held, value-never v zero_is) at sum.1 ∙ one in
-                  let small = rw long at (number-lt v sum_word) in
-                  let made = recovers parts x (value v c.and-early.result) (value v c.and-full.result) (value v c.in_ok-sum.sum.carry) (nibble v c.args.places.now.next) (nibble v c.choose-row.result) (number v sum_word) off few is_early is_full is_row (places.next (omega (arith, low))) is_sum small in
-                  record { in_row = made.0; occurred = made.1; ended = made.2 },
-            ),
-      ),
+    let word = c.add-occurrences.result in (
+      c.add-occurrences.ensures.sum.0 ∙ c.choose-row.ensures.0 ∙ c.and-full.ensures.0 ∙ c.and-early.ensures.0,
+      λ v keeps.
+          let sum = c.add-occurrences.ensures.sum.1 v keeps in
+          let row = c.choose-row.ensures.1 v sum.0 in
+          let full = c.and-full.ensures.1 v row.0 in
+          let early = c.and-early.ensures.1 v full.0 in
+          let zero_is = zero-kept v c.args.circuit.now early.0 in (
+            early.0,
+            λ parts x off low few places seen held.
+                let is_early = rw (seen, places.below_10) at early.1 in
+                let is_full = rw (seen, c.opposite-late.ensures v, places.below_10) at full.1 in
+                let is_row = rw (c.of.ensures v zero_is) at row.1 in
+                let one : parts.occurrences + (bit (value v c.and-full.result) + 2 * 0) + 0 ≡ parts.occurrences + bit (value v c.and-full.result) = omega arith in
+                let is_sum = rw (held, value-never v zero_is) at sum.1 ∙ one in
+                let small = rw c.add-occurrences.ensures.places at (number-lt v word) in
+                let made = recovers parts x (value v c.and-early.result) (value v c.and-full.result) (value v c.add-occurrences.new.carry) (nibble v c.args.places.now.next) (nibble v c.choose-row.result) (number v word) off few is_early is_full is_row (places.next (omega (arith, low))) is_sum small in
+                record { in_row = made.0; occurred = made.1; ended = made.2 },
+          ),
     )

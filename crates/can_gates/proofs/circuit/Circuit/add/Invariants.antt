@@ -5,6 +5,6 @@ use Rattle.can_gates.proofs.circuit.Circuit.add.Given as goal
 
 -- the places so far are added
 abbrev pub invariant-loop-place : goal.invariant-loop-place
-invariant-loop-place l =
-    (length l.word.items ≡ l.place)
-    × Makes l.fn.self l.self (λ v. number v l.word.items + 2 ^ l.place * bit (value v l.carry) ≡ number v (take l.place l.a) + number v (take l.place l.b) + bit (value v l.fn.carried))
+invariant-loop-place g l =
+    (length l.word ≡ g.row.N)
+    × Makes l.fn.self l.self (λ v. number v (take l.place l.word) + 2 ^ l.place * bit (value v l.over) ≡ number v (take l.place l.a) + number v (take l.place l.b) + bit (value v l.fn.carry))

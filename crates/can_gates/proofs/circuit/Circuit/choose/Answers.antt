@@ -1,39 +1,37 @@
-use Rattle.std.proofs.Common.{rules, arith, length, max, add-one, ◌≡◌, ◌∙◌}
-use Rattle.std.proofs.lemmas.List.{take_all}
-use Rattle.can_gates.proofs.Constants.{zero-kept}
-use Rattle.can_gates.proofs.WordPlaces.{choose_place}
+use Rattle.std.proofs.Common.{arith, set, take, get_or, suc, length, add-one, refl, ◌≡◌, ◌<◌, ◌∙◌}
+use Rattle.std.proofs.lemmas.List.{take_all, length-set}
+use Rattle.can_gates.proofs.Constants.{never, zero-kept}
+use Rattle.can_gates.proofs.WordPlaces.{set_place, taken, choose_place}
 use Rattle.can_gates.proofs.circuit.Circuit.choose.Goals as goal
 
 pub loop-place-preserved : goal.loop-place-preserved
-loop-place-preserved c =
+loop-place-preserved g c =
     let l = c.loop-place in
     let a = c.args.a.now in
-    let b = c.args.b.now in (
-      search rules,
+    let b = c.args.b.now in
+    let within : l.place < length l.all = omega (arith, c.loop-place-test.true, l.auto.place-end, l.invariant.0) in (
+      length-set l.all l.place c.ite.result ∙ l.invariant.0,
       (
-        c.ite-level.ensures.0 ∙ l.invariant.1.0,
+        c.ite.ensures.0 ∙ l.invariant.1.0,
         λ v keeps.
-            let level = c.ite-level.ensures.1 v keeps in
+            let level = c.ite.ensures.1 v keeps in
             let before = l.invariant.1.1 v level.0 in
             let zero_is = zero-kept v c.args.self.now before.0 in (
               before.0,
               rw (add-one l.place)
-                  (choose_place v zero_is l.all.items c.push.new.self.items a b c.args.test c.literal_at-left.result c.literal_at-right.result c.ite-level.result l.place c.in_ok-push.ensures.items l.invariant.0 c.literal_at-left.ensures c.literal_at-right.ensures level.1 before.1),
+                  (choose_place v zero_is (take l.place l.all) (take (suc l.place) (set l.all l.place c.ite.result)) a b c.args.test (get_or a l.place never) (get_or b l.place never) c.ite.result l.place (set_place l.all l.place c.ite.result within) (taken l.all l.place within) refl refl level.1 before.1),
             ),
       ),
     )
 
 pub returns : goal.returns
-returns c =
+returns g c =
     let l = c.loop-place in
     let a = c.args.a.now in
     let b = c.args.b.now in
-    let e : l.place ≡ max (length a) (length b) = omega (arith, c.loop-place-test.false, l.auto.place-end, c.max-places.ensures) in (
-      l.invariant.0 ∙ e,
-      (
-        l.invariant.1.0,
-        λ v keeps.
-            let whole = l.invariant.1.1 v keeps in
-            (whole.0, rw (take_all l.place b (omega (arith, e))) at (rw (take_all l.place a (omega (arith, e))) at whole.1)),
-      ),
+    let e : l.place ≡ g.row.N = omega (arith, c.loop-place-test.false, l.auto.place-end) in (
+      l.invariant.1.0,
+      λ v keeps.
+          let whole = l.invariant.1.1 v keeps in
+          (whole.0, rw (take_all l.place l.all (omega (arith, e, l.invariant.0)), take_all l.place a (omega (arith, e, c.told-a)), take_all l.place b (omega (arith, e, c.told-b))) at whole.1),
     )

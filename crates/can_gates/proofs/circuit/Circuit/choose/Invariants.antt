@@ -4,4 +4,4 @@ use Rattle.can_gates.specs.Words.{number}
 use Rattle.can_gates.proofs.circuit.Circuit.choose.Given as goal
 
 abbrev pub invariant-loop-place : goal.invariant-loop-place
-invariant-loop-place l = (length l.all.items ≡ l.place) × Makes l.fn.self l.self (λ v. number v l.all.items ≡ (if value v l.fn.test then number v (take l.place l.a) else number v (take l.place l.b)))
+invariant-loop-place g l = (length l.all ≡ g.row.N) × Makes l.fn.self l.self (λ v. number v (take l.place l.all) ≡ (if value v l.fn.test then number v (take l.place l.a) else number v (take l.place l.b)))

@@ -1,33 +1,31 @@
-use Rattle.std.proofs.Common.{rules, arith, length, add-one, ◌≡◌, ◌∙◌}
-use Rattle.std.proofs.lemmas.List.{take_all}
+use Rattle.std.proofs.Common.{arith, set, take, get_or, suc, length, add-one, ◌≡◌, ◌<◌, ◌∙◌}
+use Rattle.std.proofs.lemmas.List.{take_all, length-set}
 use Rattle.can_gates.proofs.Constants.{zero-kept}
-use Rattle.can_gates.proofs.WordPlaces.{or_place}
+use Rattle.can_gates.proofs.WordPlaces.{set_place, taken, or_place}
 use Rattle.can_gates.proofs.circuit.Circuit.or_all.Goals as goal
 
 pub loop-place-preserved : goal.loop-place-preserved
-loop-place-preserved c =
-    let l = c.loop-place in (
-      search rules,
+loop-place-preserved g c =
+    let l = c.loop-place in
+    let within : l.place < length l.all = omega (arith, c.loop-place-test.true, l.auto.place-end, l.invariant.0) in (
+      length-set l.all l.place c.or.result ∙ l.invariant.0,
       (
-        c.or-level.ensures.0 ∙ l.invariant.1.0,
+        c.or.ensures.0 ∙ l.invariant.1.0,
         λ v keeps.
-            let level = c.or-level.ensures.1 v keeps in
+            let level = c.or.ensures.1 v keeps in
             let before = l.invariant.1.1 v level.0 in
             let zero_is = zero-kept v c.args.self.now before.0 in
-            (before.0, rw (add-one l.place-index) (or_place v zero_is l.all.items c.push.new.self.items c.args.word.now c.or-level.result c.args.over l.place-index c.in_ok-push.ensures.items l.invariant.0 level.1 before.1)),
+            (before.0, rw (add-one l.place) (or_place v zero_is (take l.place l.all) (take (suc l.place) (set l.all l.place c.or.result)) c.args.word.now c.or.result c.args.over l.place (set_place l.all l.place c.or.result within) (taken l.all l.place within) level.1 before.1)),
       ),
     )
 
 pub returns : goal.returns
-returns c =
+returns g c =
     let l = c.loop-place in
     let word = c.args.word.now in
-    let e : l.place-index ≡ length word = omega (arith, c.loop-place-test.false, l.auto.place-index-end) in (
-      l.invariant.0 ∙ e,
-      (
-        l.invariant.1.0,
-        λ v keeps.
-            let whole = l.invariant.1.1 v keeps in
-            (whole.0, rw (take_all (length word) word (omega arith)) at (rw e at whole.1)),
-      ),
+    let e : l.place ≡ g.row.N = omega (arith, c.loop-place-test.false, l.auto.place-end) in (
+      l.invariant.1.0,
+      λ v keeps.
+          let whole = l.invariant.1.1 v keeps in
+          (whole.0, rw e at (rw (take_all l.place l.all (omega (arith, e, l.invariant.0)), take_all l.place word (omega (arith, e, c.told-word))) at whole.1)),
     )

@@ -4,4 +4,4 @@ use Rattle.can_gates.specs.Words.{number}
 use Rattle.can_gates.proofs.circuit.Circuit.or_all.Given as goal
 
 abbrev pub invariant-loop-place : goal.invariant-loop-place
-invariant-loop-place l = (length l.all.items ≡ l.place-index) × Makes l.fn.self l.self (λ v. number v l.all.items ≡ (if value v l.fn.over then 2 ^ l.place-index - 1 else number v (take l.place-index l.word)))
+invariant-loop-place g l = (length l.all ≡ g.row.N) × Makes l.fn.self l.self (λ v. number v (take l.place l.all) ≡ (if value v l.fn.over then 2 ^ l.place - 1 else number v (take l.place l.word)))
