@@ -32,7 +32,8 @@ impl Circuit {
 
     /// The word raised by the lowest places of a number, which stops at all ones.
     pub fn raised<const N: usize>(&mut self, word: &[Literal; N], by: &[Literal]) -> [Literal; N]
-        ensures { Makes self.old self.new (λ v. number v result ≡ min (number v word.now + number v (take N by.now)) (2 ^ N - 1)) }
+        ensures places { length result ≡ N }
+        ensures number { Makes self.old self.new (λ v. number v result ≡ min (number v word.now + number v (take N by.now)) (2 ^ N - 1)) }
     {
         let mut carry = FALSE;
         let sum = self.add(word, by, &mut carry);

@@ -15,7 +15,8 @@ pub fn literal_at(word: &[Literal], place: usize) -> Literal
 
 /// The lowest so many places of a number.
 pub fn constant<const N: usize>(of: u64) -> [Literal; N]
-    ensures { (v : ℕ → Bool) → v 0 ≡ false → number v result ≡ of % 2 ^ N }
+    ensures places { length result ≡ N }
+    ensures number { (v : ℕ → Bool) → v 0 ≡ false → number v result ≡ of % 2 ^ N }
 {
     let mut word = [FALSE; N];
     let mut rest = of;
@@ -54,7 +55,8 @@ impl Circuit {
         a: &[Literal; N],
         b: &[Literal; N],
     ) -> [Literal; N]
-        ensures { Makes self.old self.new (λ v. number v result ≡ (if value v test then number v a.now else number v b.now)) }
+        ensures places { length result ≡ N }
+        ensures number { Makes self.old self.new (λ v. number v result ≡ (if value v test then number v a.now else number v b.now)) }
     {
         let mut all = [FALSE; N];
         for place in 0..N {
@@ -69,7 +71,8 @@ impl Circuit {
         word: &[Literal; N],
         over: Literal,
     ) -> [Literal; N]
-        ensures { Makes self.old self.new (λ v. number v result ≡ (if value v over then 2 ^ N - 1 else number v word.now)) }
+        ensures places { length result ≡ N }
+        ensures number { Makes self.old self.new (λ v. number v result ≡ (if value v over then 2 ^ N - 1 else number v word.now)) }
     {
         let mut all = [FALSE; N];
         for place in 0..N {

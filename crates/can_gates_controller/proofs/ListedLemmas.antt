@@ -132,12 +132,6 @@ signals_of_fields extended remote identifier bytes dlc e1 e2 e3 e4 e5 =
 pub signals_of_inputs : (a b c d e f g h : Literal) (rest : List Literal) → AreSignals 1 4 (a ∷ b ∷ c ∷ d ∷ []) → AreSignals 5 4 (e ∷ f ∷ g ∷ h ∷ []) → AreSignals 9 99 rest → AreSignals 1 107 (a ∷ b ∷ c ∷ d ∷ e ∷ f ∷ g ∷ h ∷ rest)
 signals_of_inputs a b c d e f g h rest e1 e2 e3 = signals_joined 1 4 103 (a ∷ b ∷ c ∷ d ∷ []) (e ∷ f ∷ g ∷ h ∷ rest) refl e1 (signals_joined 5 4 99 (e ∷ f ∷ g ∷ h ∷ []) rest refl e2 e3)
 
-pub length-registers : (k : Registers) → length (register_list k) ≡ 277
-length-registers k =
-    let a = wires_list k.controller.wires in
-    let b = counters_list k.controller.counters in
-    omega (arith, length-append ((a ++ b) ++ heard_list k.heard) (placed 103 k.own), length-append (a ++ b) (heard_list k.heard), length-append a b, length-counters k.controller.counters, length-heard k.heard, length-placed 103 k.own)
-
 -- Two bit times.
 
 module _ (v w : ℕ → Bool) where
@@ -183,9 +177,9 @@ module _ (v w : ℕ → Bool) where
       let late : length (placed 9 b.tec ++ placed 8 b.rec) ≡ 17 = omega (arith, length-append (placed 9 b.tec) (placed 8 b.rec), length-placed 9 b.tec, length-placed 8 b.rec) in
       let both = front_takes 17 7 (placed 9 a.tec ++ placed 8 a.rec) (placed 7 a.occurrences) (placed 9 b.tec ++ placed 8 b.rec) (placed 7 b.occurrences) early late t in
       record {
-        tec = number_takes a.tec b.tec 9 (omega (arith, a.tec.ok, a.widths.0)) (omega (arith, b.tec.ok, b.widths.0)) (placed_takes 9 a.tec b.tec (front_takes 9 8 (placed 9 a.tec) (placed 8 a.rec) (placed 9 b.tec) (placed 8 b.rec) (length-placed 9 a.tec) (length-placed 9 b.tec) both));
-        rec = number_takes a.rec b.rec 8 (omega (arith, a.rec.ok, a.widths.1)) (omega (arith, b.rec.ok, b.widths.1)) (placed_takes 8 a.rec b.rec (back_takes 9 8 (placed 9 a.tec) (placed 8 a.rec) (placed 9 b.tec) (placed 8 b.rec) (length-placed 9 a.tec) (length-placed 9 b.tec) both));
-        occurrences = number_takes a.occurrences b.occurrences 7 (omega (arith, a.occurrences.ok, a.widths.2)) (omega (arith, b.occurrences.ok, b.widths.2)) (placed_takes 7 a.occurrences b.occurrences (back_takes 17 7 (placed 9 a.tec ++ placed 8 a.rec) (placed 7 a.occurrences) (placed 9 b.tec ++ placed 8 b.rec) (placed 7 b.occurrences) early late t));
+        tec = number_takes a.tec b.tec 9 a.widths.0 b.widths.0 (placed_takes 9 a.tec b.tec (front_takes 9 8 (placed 9 a.tec) (placed 8 a.rec) (placed 9 b.tec) (placed 8 b.rec) (length-placed 9 a.tec) (length-placed 9 b.tec) both));
+        rec = number_takes a.rec b.rec 8 a.widths.1 b.widths.1 (placed_takes 8 a.rec b.rec (back_takes 9 8 (placed 9 a.tec) (placed 8 a.rec) (placed 9 b.tec) (placed 8 b.rec) (length-placed 9 a.tec) (length-placed 9 b.tec) both));
+        occurrences = number_takes a.occurrences b.occurrences 7 a.widths.2 b.widths.2 (placed_takes 7 a.occurrences b.occurrences (back_takes 17 7 (placed 9 a.tec ++ placed 8 a.rec) (placed 7 a.occurrences) (placed 9 b.tec ++ placed 8 b.rec) (placed 7 b.occurrences) early late t));
       }
 
   heard_takes : (a b : Heard) → TakesLevels v w 130 (heard_list a) (heard_list b) → TakesHeard v w a b
@@ -198,7 +192,7 @@ module _ (v w : ℕ → Bool) where
       let rest = back_takes 110 20 (placed 103 a.levels ++ placed 7 a.count) rest_a (placed 103 b.levels ++ placed 7 b.count) rest_b early late t in
       record {
         levels = placed_takes 103 a.levels b.levels (front_takes 103 7 (placed 103 a.levels) (placed 7 a.count) (placed 103 b.levels) (placed 7 b.count) (length-placed 103 a.levels) (length-placed 103 b.levels) first);
-        count = number_takes a.count b.count 7 (omega (arith, a.count.ok, a.width)) (omega (arith, b.count.ok, b.width)) (placed_takes 7 a.count b.count (back_takes 103 7 (placed 103 a.levels) (placed 7 a.count) (placed 103 b.levels) (placed 7 b.count) (length-placed 103 a.levels) (length-placed 103 b.levels) first));
+        count = number_takes a.count b.count 7 a.width b.width (placed_takes 7 a.count b.count (back_takes 103 7 (placed 103 a.levels) (placed 7 a.count) (placed 103 b.levels) (placed 7 b.count) (length-placed 103 a.levels) (length-placed 103 b.levels) first));
         last = rest 0 (omega arith);
         run = nibble_takes a.run b.run (rest 1 (omega arith)) (rest 2 (omega arith)) (rest 3 (omega arith)) (rest 4 (omega arith));
         check = placed_takes 15 a.check b.check (back_takes 5 15 (a.last ∷ nibble_before a.run []) (placed 15 a.check) (b.last ∷ nibble_before b.run []) (placed 15 b.check) refl refl rest);
@@ -277,9 +271,9 @@ module _ (v : ℕ → Bool) where
       let both = front_clear 17 7 (placed 9 a.counters.tec ++ placed 8 a.counters.rec) (placed 7 a.counters.occurrences) sizes counters in
       record {
         wires = clear_wires a.wires joins (wires 0 (omega arith)) (λ p low h. wires p h ∙ rw (ne_eqb p 0 (λ e. absurd (omega (arith, e, low)))) refl);
-        tec = number_nothing a.counters.tec 9 (omega (arith, a.counters.tec.ok, a.counters.widths.0)) (placed_clear 9 a.counters.tec (front_clear 9 8 (placed 9 a.counters.tec) (placed 8 a.counters.rec) (length-placed 9 a.counters.tec) both));
-        rec = number_nothing a.counters.rec 8 (omega (arith, a.counters.rec.ok, a.counters.widths.1)) (placed_clear 8 a.counters.rec (back_clear 9 8 (placed 9 a.counters.tec) (placed 8 a.counters.rec) (length-placed 9 a.counters.tec) (λ p low h. both p h)));
-        occurrences = number_nothing a.counters.occurrences 7 (omega (arith, a.counters.occurrences.ok, a.counters.widths.2)) (placed_clear 7 a.counters.occurrences (back_clear 17 7 (placed 9 a.counters.tec ++ placed 8 a.counters.rec) (placed 7 a.counters.occurrences) sizes (λ p low h. counters p h)));
+        tec = number_nothing a.counters.tec 9 a.counters.widths.0 (placed_clear 9 a.counters.tec (front_clear 9 8 (placed 9 a.counters.tec) (placed 8 a.counters.rec) (length-placed 9 a.counters.tec) both));
+        rec = number_nothing a.counters.rec 8 a.counters.widths.1 (placed_clear 8 a.counters.rec (back_clear 9 8 (placed 9 a.counters.tec) (placed 8 a.counters.rec) (length-placed 9 a.counters.tec) (λ p low h. both p h)));
+        occurrences = number_nothing a.counters.occurrences 7 a.counters.widths.2 (placed_clear 7 a.counters.occurrences (back_clear 17 7 (placed 9 a.counters.tec ++ placed 8 a.counters.rec) (placed 7 a.counters.occurrences) sizes (λ p low h. counters p h)));
       }
 
 -- What a circuit's registers do, of these.

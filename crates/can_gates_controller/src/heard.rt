@@ -1,4 +1,6 @@
 //! The registers of the front of a frame.
+ghost use Rattle.std.specs.Prelude.{◌≡◌, length};
+
 use can_gates::Literal;
 use can_gates_mac::Nibble;
 
@@ -15,4 +17,5 @@ pub struct Heard {
     pub run: Nibble,
     /// The check sequence of the unstuffed levels, its first level first. Behind a whole frame that agrees nothing is left of it.
     pub check: [Literal; 15],
+    ghost width: { length count ≡ 7 },
 }

@@ -1,5 +1,5 @@
 //! Which signals are inputs and registers.
-ghost use Rattle.std.specs.Prelude.{◌≡◌, ◌+◌, ◌<◌, ◌^◌, [], ℕ, Bool};
+ghost use Rattle.std.specs.Prelude.{◌≡◌, ◌+◌, ◌<◌, ◌^◌, [], ℕ, Bool, length};
 ghost use Rattle.can_gates.specs.Circuit.{value};
 ghost use Rattle.can_gates_controller.specs.Listed.{AreSignals, nibble_before, counters_list, heard_list, register_list, field_list, input_list};
 
@@ -139,7 +139,8 @@ fn nibble(first: u32) -> Nibble
 /// So many signals, of which this is the first.
 fn signals<const N: usize>(first: u32) -> [Literal; N]
     requires { first + N < 2 ^ 32 }
-    ensures { AreSignals first N result }
+    ensures places { length result ≡ N }
+    ensures signals { AreSignals first N result }
 {
     let mut word = [FALSE; N];
     for place in 0..N {

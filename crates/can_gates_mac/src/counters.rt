@@ -25,7 +25,8 @@ pub(crate) fn tec_behind(circuit: &mut Circuit, cause: Nibble, tec: &[Literal; 9
 
 /// REC behind what is counted: one or 8 more where a receiver erred, and what a reception makes of it.
 pub(crate) fn rec_behind(circuit: &mut Circuit, cause: Nibble, rec: &[Literal; 8]) -> [Literal; 8]
-    ensures { Makes circuit.old circuit.new (λ v. nibble v cause < 6 → number v result ≡ rec_after (nibble v cause) (number v rec.now)) }
+    ensures places { length result ≡ 8 }
+    ensures rec { Makes circuit.old circuit.new (λ v. nibble v cause < 6 → number v result ≡ rec_after (nibble v cause) (number v rec.now)) }
 {
     let by_8 = circuit.and(cause.twos, cause.ones.opposite());
     let odd = circuit.and(cause.ones, cause.twos.opposite());

@@ -1,5 +1,5 @@
 //! Off the bus, and how it ends. (Bosch CAN 2.0 part B, section 8)
-ghost use Rattle.std.specs.Prelude.{◌≡◌, ◌<◌, ℕ, Bool, true, false, if◌then◌else◌};
+ghost use Rattle.std.specs.Prelude.{◌≡◌, ◌<◌, ℕ, Bool, true, false, if◌then◌else◌, length};
 ghost use Rattle.can_frame.specs.declared.level.Level.{Level};
 ghost use Rattle.can_frame.specs.Levels.{is_recessive};
 ghost use Rattle.can_fault.specs.Counters.{ConfineParts, is_bus_off};
@@ -31,7 +31,8 @@ pub(crate) fn recover(
     seen: Literal,
     occurrences: &[Literal; 7],
 ) -> Recovery
-    ensures { Makes circuit.old circuit.new (λ v. (c : ConfineParts) (x : Level) → is_bus_off c ≡ true → c.row < 11 → c.occurrences < 128 → IsPlaced v places.now c.row → value v seen ≡ is_recessive x → number v occurrences.now ≡ c.occurrences → Recovers v result.row result.occurrences result.ended c x) }
+    ensures places { length result.occurrences ≡ 7 }
+    ensures recovers { Makes circuit.old circuit.new (λ v. (c : ConfineParts) (x : Level) → is_bus_off c ≡ true → c.row < 11 → c.occurrences < 128 → IsPlaced v places.now c.row → value v seen ≡ is_recessive x → number v occurrences.now ≡ c.occurrences → Recovers v result.row result.occurrences result.ended c x) }
 {
     let late = places.below_10.opposite();
     let early = circuit.and(seen, places.below_10);

@@ -1,4 +1,6 @@
 //! A controller's counters, and all that registers hold of it.
+ghost use Rattle.std.specs.Prelude.{◌≡◌, length};
+
 use crate::wires::Wires;
 use can_gates::Literal;
 
@@ -11,6 +13,7 @@ pub struct Counters {
     pub rec: [Literal; 8],
     /// Occurrences.
     pub occurrences: [Literal; 7],
+    ghost widths: { (length tec ≡ 9) × (length rec ≡ 8) × (length occurrences ≡ 7) },
 }
 
 /// A controller but for its frames and the front of the frame on the bus: what registers hold or take, and what is told.

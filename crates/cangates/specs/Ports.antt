@@ -22,9 +22,9 @@ input_words k =
     ∷ (codes "waits", k.waits ∷ [])
     ∷ (codes "wait_extended", k.frame.extended ∷ [])
     ∷ (codes "wait_remote", k.frame.remote ∷ [])
-    ∷ (codes "wait_identifier", placed 29 k.frame.identifier.items)
+    ∷ (codes "wait_identifier", placed 29 k.frame.identifier)
     ∷ (codes "wait_dlc", nibble_before k.frame.dlc [])
-    ∷ (codes "wait_data", placed 64 k.frame.bytes.items) ∷ []
+    ∷ (codes "wait_data", placed 64 k.frame.bytes) ∷ []
 
 -- what goes out
 abbrev pub output_words : OutputPorts → List (List ℕ × List Literal)
@@ -33,11 +33,11 @@ output_words k =
     ∷ (codes "told", nibble_before k.told [])
     ∷ (codes "frame_extended", k.frame.extended ∷ [])
     ∷ (codes "frame_remote", k.frame.remote ∷ [])
-    ∷ (codes "frame_identifier", placed 29 k.frame.identifier.items)
+    ∷ (codes "frame_identifier", placed 29 k.frame.identifier)
     ∷ (codes "frame_dlc", nibble_before k.frame.dlc [])
-    ∷ (codes "frame_data", placed 64 k.frame.bytes.items)
-    ∷ (codes "tec", placed 9 k.tec.items)
-    ∷ (codes "rec", placed 8 k.rec.items)
+    ∷ (codes "frame_data", placed 64 k.frame.bytes)
+    ∷ (codes "tec", placed 9 k.tec)
+    ∷ (codes "rec", placed 8 k.rec)
     ∷ (codes "passive", k.passive ∷ [])
     ∷ (codes "off", k.off ∷ [])
     ∷ (codes "legal", k.legal ∷ []) ∷ []
@@ -55,15 +55,15 @@ register_words k =
     ∷ (codes "sender", wires.sender ∷ [])
     ∷ (codes "pending", nibble_before wires.pending [])
     ∷ (codes "used", nibble_before wires.used [])
-    ∷ (codes "tec_count", placed 9 counters.tec.items)
-    ∷ (codes "rec_count", placed 8 counters.rec.items)
-    ∷ (codes "occurrences", placed 7 counters.occurrences.items)
-    ∷ (codes "heard", placed 103 k.heard.levels.items)
-    ∷ (codes "heard_count", placed 7 k.heard.count.items)
+    ∷ (codes "tec_count", placed 9 counters.tec)
+    ∷ (codes "rec_count", placed 8 counters.rec)
+    ∷ (codes "occurrences", placed 7 counters.occurrences)
+    ∷ (codes "heard", placed 103 k.heard.levels)
+    ∷ (codes "heard_count", placed 7 k.heard.count)
     ∷ (codes "heard_last", k.heard.last ∷ [])
     ∷ (codes "heard_run", nibble_before k.heard.run [])
-    ∷ (codes "heard_check", placed 15 k.heard.check.items)
-    ∷ (codes "own", placed 103 k.own.items) ∷ []
+    ∷ (codes "heard_check", placed 15 k.heard.check)
+    ∷ (codes "own", placed 103 k.own) ∷ []
 
 -- all literals that words name, one word behind another
 abbrev pub literals_of : List (List ℕ × List Literal) → List Literal

@@ -12,8 +12,11 @@ loop-place-preserved g c =
           rw (add-one l.place) (constant_place v (take l.place l.word) (take (suc l.place) (set l.word l.place c.lowest.result)) c.lowest.result l.place l.rest c.args.of (set_place l.word l.place c.lowest.result within) (taken l.word l.place within) (c.lowest.ensures v zero_is) (l.invariant.1 v zero_is)),
     )
 
-pub returns : goal.returns
-returns g c =
+pub returns-clause-places : goal.returns-clause-places
+returns-clause-places g c = c.loop-place.invariant.0
+
+pub returns-clause-number : goal.returns-clause-number
+returns-clause-number g c =
     let l = c.loop-place in
     let e : l.place ≡ g.row.N = omega (arith, c.loop-place-test.false, l.auto.place-end) in
     let whole = take_all l.place l.word (omega (arith, e, l.invariant.0)) in

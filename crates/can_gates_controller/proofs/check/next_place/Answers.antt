@@ -1,6 +1,5 @@
 use Rattle.std.proofs.Common.{◌∙◌, ◌+◌, sym, ap, arith}
 use Rattle.can_frame.specs.Levels.{is_recessive}
-use Rattle.can_gates.specs.Circuit.{value}
 use Rattle.can_gates.proofs.Constants.{value-never}
 use Rattle.can_gates_controller.proofs.Checks.{crc_past}
 use Rattle.can_gates_controller.proofs.check.next_place.Goals as goal

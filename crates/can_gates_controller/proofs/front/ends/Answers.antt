@@ -1,6 +1,5 @@
-use Rattle.std.proofs.Common.{◌∙◌, get_or, refl, sym, ap}
+use Rattle.std.proofs.Common.{◌∙◌, refl, sym}
 use Rattle.can_gates.specs.Circuit.{value}
-use Rattle.can_gates.proofs.Constants.{never}
 use Rattle.can_gates_mac.proofs.NibbleBits.{nibble-bits}
 use Rattle.can_gates_mac.proofs.Drives.{five_bits}
 use Rattle.can_gates_controller.proofs.front.ends.Goals as goal

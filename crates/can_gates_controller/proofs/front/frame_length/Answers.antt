@@ -1,4 +1,5 @@
-use Rattle.std.proofs.Common.{◌≡◌, ◌∙◌, ℕ, ◌<◌, length, get_or, refl, ap, arith}
+use Rattle.std.proofs.Common.{◌≡◌, ◌∙◌, ℕ, ◌<◌, get_or, refl, arith}
+use Rattle.std.proofs.lemmas.List.{take_all}
 use Rattle.can_frame.specs.Levels.{is_recessive}
 use Rattle.can_wire.specs.Layout.{level_at}
 use Rattle.can_gates.specs.Circuit.{value}
@@ -10,10 +11,10 @@ use Rattle.can_gates_controller.proofs.front.frame_length.Goals as goal
 
 pub returns : goal.returns
 returns c = (
-  c.add.ensures.0 ∙ c.choose-least.ensures.0 ∙ c.and-one.ensures.0 ∙ c.and-two.ensures.0 ∙ c.and-four.ensures.0 ∙ c.and-few.ensures.0 ∙ c.and-eight.ensures.0 ∙ c.ite-ones.ensures.0 ∙ c.ite-twos.ensures.0 ∙ c.ite-fours.ensures.0 ∙ c.ite-eights.ensures.0 ∙ c.ite-remote.ensures.0,
+  c.add.ensures.sum.0 ∙ c.choose-least.ensures.number.0 ∙ c.and-one.ensures.0 ∙ c.and-two.ensures.0 ∙ c.and-four.ensures.0 ∙ c.and-few.ensures.0 ∙ c.and-eight.ensures.0 ∙ c.ite-ones.ensures.0 ∙ c.ite-twos.ensures.0 ∙ c.ite-fours.ensures.0 ∙ c.ite-eights.ensures.0 ∙ c.ite-remote.ensures.0,
   λ v keeps.
-      let sum = c.add.ensures.1 v keeps in
-      let least = c.choose-least.ensures.1 v sum.0 in
+      let sum = c.add.ensures.sum.1 v keeps in
+      let least = c.choose-least.ensures.number.1 v sum.0 in
       let one = c.and-one.ensures.1 v least.0 in
       let two = c.and-two.ensures.1 v one.0 in
       let four = c.and-four.ensures.1 v two.0 in
@@ -29,7 +30,7 @@ returns c = (
         remote.0,
         λ u held.
             let at : (p : ℕ) → p < 103 → value v (get_or c.args.levels.now p never) ≡ is_recessive (level_at u p) = held in
-            let small = number-lt v c.add.result in
+            let small = rw c.add.ensures.places at (number-lt v c.add.result) in
             length_is u (value v (get_or c.args.levels.now 13 never)) (value v c.ite-remote.result) (value v c.ite-eights.result) (value v c.ite-fours.result) (value v c.ite-twos.result) (value v c.ite-ones.result) (value v c.and-few.result) (number v c.add.result) (bit (value v c.add.new.carry)) (at 13 (omega arith))
             (remote.1 ∙ rw (at 32 (omega arith), at 12 (omega arith)) refl)
             (eights.1 ∙ rw (at 35 (omega arith), at 15 (omega arith)) refl)
@@ -37,7 +38,7 @@ returns c = (
             (twos.1 ∙ rw (at 37 (omega arith), at 17 (omega arith)) refl)
             (ones.1 ∙ rw (at 38 (omega arith), at 18 (omega arith)) refl)
             (few.1 ∙ rw (c.opposite-2.ensures v, c.opposite-3.ensures v) refl)
-            (rw (no, one.1, two.1, four.1, eight.1, c.opposite.ensures v, least.1, c.constant-long.ensures v zero_is, c.constant-short.ensures v zero_is) at sum.1 ∙ omega arith)
+            (rw (no, one.1, two.1, four.1, eight.1, c.opposite.ensures v, take_all 7 c.choose-least.result (omega (arith, c.choose-least.ensures.places)), least.1, c.constant-long.ensures.number v zero_is, c.constant-short.ensures.number v zero_is) at sum.1 ∙ omega arith)
             small,
       ),
 )

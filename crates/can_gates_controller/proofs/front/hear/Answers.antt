@@ -1,17 +1,15 @@
-use Rattle.std.proofs.Common.{◌≡◌, ◌∙◌, length, not, get_or, refl, subst, ap, arith}
+use Rattle.std.proofs.Common.{◌∙◌, not, refl, subst, ap}
 use Rattle.std.proofs.Math.Dec.{eqb}
-use Rattle.can_gates.specs.Circuit.{value}
-use Rattle.can_gates.proofs.Constants.{never}
 use Rattle.can_gates_controller.specs.Fronts.{HoldsCheck}
 use Rattle.can_gates_controller.proofs.FrontPlaces.{heard_place, heard_count, heard_unstuffed}
 use Rattle.can_gates_controller.proofs.front.hear.Goals as goal
 
 pub returns : goal.returns
 returns c = (
-  c.next_check-check.ensures.0 ∙ c.raised-count.ensures.0 ∙ c.written-levels.ensures.0 ∙ c.and-level.ensures.0 ∙ c.stuffing-stuffing.ensures.0,
+  c.next_check-check.ensures.0 ∙ c.raised-count.ensures.number.0 ∙ c.written-levels.ensures.0 ∙ c.and-level.ensures.0 ∙ c.stuffing-stuffing.ensures.0,
   λ v keeps.
       let check = c.next_check-check.ensures.1 v keeps in
-      let count = c.raised-count.ensures.1 v check.0 in
+      let count = c.raised-count.ensures.number.1 v check.0 in
       let levels = c.written-levels.ensures.1 v count.0 in
       let level = c.and-level.ensures.1 v levels.0 in
       let stuffing = c.stuffing-stuffing.ensures.1 v level.0 in (

@@ -23,7 +23,7 @@ loop-place-preserved c =
             let before = l.invariant.1.1 v here.0 in
             let zero_is = zero-kept v c.args.circuit.now before.0 in
             let low : l.place % 2 ^ 7 ≡ l.place = omega (arith, c.loop-place-test.true, l.auto.place-end) in
-            let is = both.1 ∙ rw (new.1, here.1, c.constant-number.ensures v zero_is, low) refl in
+            let is = both.1 ∙ rw (new.1, here.1, c.constant-number.ensures.number v zero_is, low) refl in
             (before.0, λ p h. written_place v (λ q. value v (get_or levels q never) || ((number v count == q) && value v c.args.level)) l.all c.or.result l.place p within is before.1 h),
       ),
     )

@@ -24,6 +24,6 @@ returns c = (
         λ m is held.
             let off = c.is_off-off.ensures v zero_is ∙ ap (nat_le 256) held.counters.tec in
             let resting : value v c.select-rests.result ≡ is_off_phase m.phase = rests.1 ∙ rw held.phase (rests_at v zero_is m.phase) in
-            made.1 ∙ rw (fits.1, counts.1, c.opposite.ensures v, c.opposite-2.ensures v, some.1, differs.1, small.1, c.constant-most.ensures v zero_is, held.counters.tec, held.counters.occurrences, value-never v zero_is) (counters_fit m.counters _ _ is.counters off (resting ∙ is.off)),
+            made.1 ∙ rw (fits.1, counts.1, c.opposite.ensures v, c.opposite-2.ensures v, some.1, differs.1, small.1, c.constant-most.ensures.number v zero_is, held.counters.tec, held.counters.occurrences, value-never v zero_is) (counters_fit m.counters _ _ is.counters off (resting ∙ is.off)),
       ),
 )

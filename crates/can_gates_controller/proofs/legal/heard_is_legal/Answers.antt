@@ -1,9 +1,6 @@
-use Rattle.std.proofs.Common.{◌∙◌, List, get_or, refl, ap}
-use Rattle.can_frame.specs.declared.level.Level.{Level}
+use Rattle.std.proofs.Common.{◌∙◌, refl}
 use Rattle.can_gates.specs.Circuit.{value}
-use Rattle.can_gates.specs.Words.{number}
-use Rattle.can_gates.proofs.Constants.{never, zero-kept, value-always}
-use Rattle.can_gates_controller.specs.Fronts.{HoldsLevels}
+use Rattle.can_gates.proofs.Constants.{zero-kept, value-always}
 use Rattle.can_gates_controller.proofs.Phases.{is_going}
 use Rattle.can_gates_controller.proofs.LegalStates.{front_of, reading_of_end, heard_fits, whole_fits}
 use Rattle.can_gates_controller.proofs.legal.heard_is_legal.Goals as goal

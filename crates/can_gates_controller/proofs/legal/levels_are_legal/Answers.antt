@@ -26,7 +26,7 @@ loop-place-preserved c =
           let before = l.invariant.1 v here.0 in
           let zero_is = zero-kept v c.args.circuit.now before.0 in
           let low : l.place % 2 ^ 7 ≡ l.place = omega (arith, c.loop-place-test.true, l.auto.place-end) in
-          let past = behind.1 ∙ rw (before.1.0, here.1, c.constant-number.ensures v zero_is, low) (behind_more (number v heard.count) l.place) in (
+          let past = behind.1 ∙ rw (before.1.0, here.1, c.constant-number.ensures.number v zero_is, low) (behind_more (number v heard.count) l.place) in (
             before.0,
             (past, λ u levels count. legal.1 ∙ rw (before.1.1 u levels count, c.opposite.ensures v, wrong.1, past, count, levels l.place (omega (arith, c.loop-place-test.true, l.auto.place-end))) (dominant_behind u l.place)),
           ),

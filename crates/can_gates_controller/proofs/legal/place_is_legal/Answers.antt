@@ -1,5 +1,4 @@
 use Rattle.std.proofs.Common.{◌∙◌, refl}
-use Rattle.can_gates.specs.Circuit.{value}
 use Rattle.can_gates_mac.specs.Nibbles.{nibble}
 use Rattle.can_gates_controller.proofs.LegalStates.{place_is}
 use Rattle.can_gates_controller.proofs.legal.place_is_legal.Goals as goal

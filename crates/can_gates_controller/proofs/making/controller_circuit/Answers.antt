@@ -1,4 +1,4 @@
-use Rattle.std.proofs.Common.{◌∙◌, length, false, ap}
+use Rattle.std.proofs.Common.{◌∙◌, false, ap}
 use Rattle.std.proofs.Math.Dec.{eqb}
 use Rattle.can_gates.specs.Circuit.{CircuitParts}
 use Rattle.can_gates_controller.proofs.ListedLemmas.{list_resets, starts_are, steps_are}
@@ -9,23 +9,23 @@ use Rattle.can_gates_controller.proofs.making.controller_circuit.Goals as goal
 
 pub returns-clause-starts : goal.returns-clause-starts
 returns-clause-starts c =
-    let many = c.in_ok-registers.ensures.0 ∙ c.in_ok-step.ensures.0 in
-    let inputs = c.in_ok-step.ensures.1.0 ∙ ap (λ (k : CircuitParts). k.inputs) c.new-circuit.ensures in
-    λ v starts. reset_holds v c.registers-held.result false (list_resets v c.registers-held.result false (λ p h. starts_are c.in_ok-registers.registers.items c.step.new.circuit _ c.registers-held.result many inputs c.registers-held.ensures long c.in_ok-registers.ensures.1 v starts p h ∙ not_first (eqb p 0)))
+    let many = c.in_ok-registers.ensures.0 ∙ c.in_ok-next.ensures.0 in
+    let inputs = c.in_ok-next.ensures.1.0 ∙ ap (λ (k : CircuitParts). k.inputs) c.new-circuit.ensures in
+    λ v starts. reset_holds v c.registers-held.result false (list_resets v c.registers-held.result false (λ p h. starts_are c.in_ok-registers.registers.items c.step.new.circuit _ c.registers-held.result many inputs c.registers-held.ensures c.in_ok-next.ensures.0 c.in_ok-registers.ensures.1 v starts p h ∙ not_first (eqb p 0)))
 
 pub returns-clause-resets : goal.returns-clause-resets
 returns-clause-resets c =
-    let many = c.in_ok-registers.ensures.0 ∙ c.in_ok-step.ensures.0 in
-    let inputs = c.in_ok-step.ensures.1.0 ∙ ap (λ (k : CircuitParts). k.inputs) c.new-circuit.ensures in
-    λ before now keeps reset steps. (c.in_ok-step.ensures.1.1 before keeps).1.0 now reset (rw c.deref.ensures.value at (steps_are c.in_ok-registers.registers.items c.step.new.circuit _ c.registers-held.result many inputs c.registers-held.ensures long c.in_ok-registers.ensures.1 before now steps))
+    let many = c.in_ok-registers.ensures.0 ∙ c.in_ok-next.ensures.0 in
+    let inputs = c.in_ok-next.ensures.1.0 ∙ ap (λ (k : CircuitParts). k.inputs) c.new-circuit.ensures in
+    λ before now keeps reset steps. (c.in_ok-next.ensures.1.1 before keeps).1.0 now reset (steps_are c.in_ok-registers.registers.items c.step.new.circuit _ c.registers-held.result many inputs c.registers-held.ensures c.in_ok-next.ensures.0 c.in_ok-registers.ensures.1 before now steps)
 
 pub returns-clause-steps : goal.returns-clause-steps
 returns-clause-steps c =
-    let many = c.in_ok-registers.ensures.0 ∙ c.in_ok-step.ensures.0 in
-    let inputs = c.in_ok-step.ensures.1.0 ∙ ap (λ (k : CircuitParts). k.inputs) c.new-circuit.ensures in
+    let many = c.in_ok-registers.ensures.0 ∙ c.in_ok-next.ensures.0 in
+    let inputs = c.in_ok-next.ensures.1.0 ∙ ap (λ (k : CircuitParts). k.inputs) c.new-circuit.ensures in
     λ before m keeps held.
-    let now = (c.in_ok-step.ensures.1.1 before keeps).1.1 m held in
-    (now.0, λ after steps. now.1 after (rw c.deref.ensures.value at (steps_are c.in_ok-registers.registers.items c.step.new.circuit _ c.registers-held.result many inputs c.registers-held.ensures long c.in_ok-registers.ensures.1 before after steps)))
+    let now = (c.in_ok-next.ensures.1.1 before keeps).1.1 m held in
+    (now.0, λ after steps. now.1 after (steps_are c.in_ok-registers.registers.items c.step.new.circuit _ c.registers-held.result many inputs c.registers-held.ensures c.in_ok-next.ensures.0 c.in_ok-registers.ensures.1 before after steps))
 
 pub returns-clause-runs : goal.returns-clause-runs
 returns-clause-runs c = runs_alike _ (returns-clause-steps c)
@@ -33,7 +33,7 @@ returns-clause-runs c = runs_alike _ (returns-clause-steps c)
 pub returns-clause-ports : goal.returns-clause-ports
 returns-clause-ports c = record {
   inputs = c.in_ok-next.ensures.1.0 ∙ ap (λ (k : CircuitParts). k.inputs) c.new-circuit.ensures;
-  registers = c.in_ok-registers.ensures.0 ∙ ap length c.deref.ensures.value ∙ c.in_ok-next.ensures.0;
+  registers = c.in_ok-registers.ensures.0 ∙ c.in_ok-next.ensures.0;
   comes = c.input_ports-inputs.ensures;
   held = c.registers-held.ensures;
   goes = c.in_ok-listed.ensures;

@@ -1,5 +1,4 @@
-use Rattle.std.proofs.Common.{◌∙◌, ap, arith}
-use Rattle.can_gates.specs.Circuit.{value}
+use Rattle.std.proofs.Common.{◌∙◌, arith}
 use Rattle.can_gates_controller.proofs.Own.{head-extended}
 use Rattle.can_gates_controller.proofs.sending.is_extended.Goals as goal
 

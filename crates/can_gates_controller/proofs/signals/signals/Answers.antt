@@ -11,8 +11,11 @@ loop-place-preserved g c =
       λ v p h. written_place v (λ q. v (c.args.first + q)) l.word c.signal.result l.place p within (c.signal.ensures v) (l.invariant.1 v) h,
     )
 
-pub returns : goal.returns
-returns g c =
+pub returns-clause-places : goal.returns-clause-places
+returns-clause-places g c = c.loop-place.invariant.0
+
+pub returns-clause-signals : goal.returns-clause-signals
+returns-clause-signals g c =
     let l = c.loop-place in
     let e : l.place ≡ g.row.N = omega (arith, c.loop-place-test.false, l.auto.place-end) in
     rw e at l.invariant.1

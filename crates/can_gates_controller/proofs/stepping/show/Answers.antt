@@ -2,7 +2,6 @@ use Rattle.std.proofs.Common.{◌≡◌, ◌∙◌, refl, sym, ap}
 use Rattle.std.specs.Prelude.{nat_le}
 use Rattle.can_frame.specs.Levels.{is_recessive}
 use Rattle.can_gates.specs.Circuit.{value}
-use Rattle.can_gates.specs.Words.{number}
 use Rattle.can_gates.proofs.Constants.{zero-kept}
 use Rattle.can_gates_controller.specs.Steps.{ControllerStep, asked, step_time}
 use Rattle.can_gates_controller.proofs.StepsTaken.{drives_asked, told_is, frame_is}

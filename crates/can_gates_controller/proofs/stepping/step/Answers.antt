@@ -1,9 +1,8 @@
-use Rattle.std.proofs.Common.{◌∙◌, ◌<◌, ℕ, length, refl, ap, arith}
+use Rattle.std.proofs.Common.{◌∙◌, ◌<◌, ℕ, refl}
 use Rattle.can_gates.specs.Circuit.{value}
 use Rattle.can_gates_controller.specs.Steps.{asked, step_time}
 use Rattle.can_gates_controller.specs.Fields.{frame_in}
 use Rattle.can_gates_controller.specs.Runs.{step_in}
-use Rattle.can_gates_controller.proofs.ListedLemmas.{length-registers}
 use Rattle.can_gates_controller.proofs.Cleared.{frame_in-is}
 use Rattle.can_gates_controller.proofs.StepsTaken.{taken_reset, taken_behind, offers_is, recessive_from}
 use Rattle.can_gates_controller.proofs.stepping.step.Goals as goal

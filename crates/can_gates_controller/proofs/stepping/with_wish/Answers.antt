@@ -1,10 +1,8 @@
-use Rattle.std.proofs.Common.{◌∙◌, [], ◌∷◌, refl, sym}
+use Rattle.std.proofs.Common.{◌∙◌, [], ◌∷◌, refl}
 use Rattle.can_gates.specs.Circuit.{value}
 use Rattle.can_gates.specs.Words.{number}
 use Rattle.can_gates.proofs.Constants.{never, zero-kept, value-never}
 use Rattle.can_gates_mac.specs.Nibbles.{nibble}
-use Rattle.can_gates_controller.proofs.ListedLemmas.{list_takes}
-use Rattle.can_gates_controller.proofs.Taking.{takes_holds}
 use Rattle.can_gates_controller.proofs.StepsTaken.{two_places, wish_holds}
 use Rattle.can_gates_controller.proofs.stepping.with_wish.Goals as goal
 

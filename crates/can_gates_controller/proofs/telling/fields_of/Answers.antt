@@ -1,5 +1,6 @@
-use Rattle.std.proofs.Common.{◌≡◌, ◌∙◌, ◌++◌, List, ℕ, drop, get_or, refl, ap}
-use Rattle.can_gates.specs.declared.literal.Literal.{Literal}
+use Rattle.std.proofs.Common.{◌≡◌, ◌∙◌, ◌++◌, ◌<◌, ℕ, cond, take, drop, get_or, refl, ap, arith}
+use Rattle.std.proofs.lemmas.List.{take_all, length-drop}
+use Rattle.can_gates.specs.Circuit.{value}
 use Rattle.can_gates.proofs.Constants.{never, zero-kept}
 use Rattle.can_gates_controller.specs.declared.fields.Fields.{Fields}
 use Rattle.can_gates_controller.specs.Laying.{turned_bytes}
@@ -26,6 +27,9 @@ returns c = (
       } in (
         identifier.0,
         λ u held.
-            fields_told v zero_is k levels rest c.push_turned_bytes.new.out.items u held refl c.in_ok-identifier.ensures.0 identifier.1 behind.1 refl refl refl refl refl word (rw c.deref.ensures.value at bytes.1),
+            let chosen : (p : ℕ) → p < 71 → value v (get_or rest p never) ≡ cond (value v (get_or levels 13 never)) (value v (get_or (take 71 (drop 32 levels)) p never)) (value v (get_or (take 91 (drop 12 levels)) p never)) = behind.1 in
+            let high = take_all 71 (drop 32 levels) (omega (arith, length-drop 32 levels, c.told-levels)) in
+            let low = take_all 91 (drop 12 levels) (omega (arith, length-drop 12 levels, c.told-levels)) in
+            fields_told v zero_is k levels rest c.push_turned_bytes.new.out.items u held refl c.in_ok-identifier.ensures.0 identifier.1 (λ p h. rw (high, low) at (chosen p h)) refl refl refl refl refl word (rw c.deref.ensures.value at bytes.1),
       ),
 )

@@ -1,8 +1,6 @@
-use Rattle.std.proofs.Common.{◌≡◌, ◌++◌, ◌∙◌, cond, get_or, take, length, refl, ap, arith, drop, length-append}
-use Rattle.std.proofs.lemmas.List.{take_all}
+use Rattle.std.proofs.Common.{◌≡◌, ◌++◌, ◌∙◌, length, refl, ap, arith, drop, length-append}
 use Rattle.can_gates.specs.Circuit.{value}
-use Rattle.can_gates.specs.Words.{number}
-use Rattle.can_gates.proofs.Constants.{never, zero-kept}
+use Rattle.can_gates.proofs.Constants.{zero-kept}
 use Rattle.can_gates_controller.specs.Laying.{turned_word}
 use Rattle.can_gates_controller.proofs.TurnedLevels.{length-turned}
 use Rattle.can_gates_controller.proofs.WordParts.{number_chosen}

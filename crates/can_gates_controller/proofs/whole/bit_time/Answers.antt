@@ -1,8 +1,6 @@
-use Rattle.std.proofs.Common.{◌∙◌, get_or, subst, ap}
+use Rattle.std.proofs.Common.{◌∙◌, subst, ap}
 use Rattle.can_mac.specs.State.{IsRole}
 use Rattle.can_mac.proofs.Kept.{step_kept}
-use Rattle.can_gates.specs.Circuit.{value}
-use Rattle.can_gates.proofs.Constants.{never}
 use Rattle.can_gates_mac.proofs.Next.{next_holds}
 use Rattle.can_gates_controller.specs.Holding.{is_in_frame}
 use Rattle.can_gates_controller.proofs.Follows.{bit_time_follows}

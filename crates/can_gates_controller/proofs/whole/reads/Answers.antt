@@ -1,8 +1,7 @@
-use Rattle.std.proofs.Common.{◌≤◌, ◌∙◌, get_or, length, sym, subst, ap, arith}
+use Rattle.std.proofs.Common.{◌≤◌, ◌∙◌, length, sym, subst, ap, arith}
 use Rattle.can_wire.proofs.LayoutLengths.{frame_len_ge}
 use Rattle.can_mac.specs.State.{IsRole}
 use Rattle.can_gates.specs.Circuit.{value}
-use Rattle.can_gates.proofs.Constants.{never}
 use Rattle.can_gates_mac.proofs.NibbleBits.{nibble-bits}
 use Rattle.can_gates_mac.proofs.Drives.{five_bits}
 use Rattle.can_gates_controller.specs.Holding.{is_in_frame}

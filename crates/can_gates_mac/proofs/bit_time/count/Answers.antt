@@ -8,10 +8,10 @@ use Rattle.can_gates_mac.proofs.bit_time.count.Goals as goal
 
 pub returns : goal.returns
 returns c = (
-  c.choose_wires-wires.ensures.0 ∙ c.rec_behind-rec.ensures.0 ∙ c.tec_behind-tec.ensures.tec.0,
+  c.choose_wires-wires.ensures.0 ∙ c.rec_behind-rec.ensures.rec.0 ∙ c.tec_behind-tec.ensures.tec.0,
   λ v keeps.
       let wires = c.choose_wires-wires.ensures.1 v keeps in
-      let rec = c.rec_behind-rec.ensures.1 v wires.0 in
+      let rec = c.rec_behind-rec.ensures.rec.1 v wires.0 in
       let tec = c.tec_behind-tec.ensures.tec.1 v rec.0 in
       let zero_is = zero-kept v c.args.circuit.now tec.0 in
       let no = value-never v zero_is in (

@@ -8,11 +8,11 @@ use Rattle.can_gates_mac.proofs.bit_time.rest.Goals as goal
 
 pub returns : goal.returns
 returns c = (
-  c.choose-rec.ensures.0 ∙ c.choose-tec.ensures.0 ∙ c.recover.ensures.0 ∙ c.compare-places.ensures.0,
+  c.choose-rec.ensures.number.0 ∙ c.choose-tec.ensures.number.0 ∙ c.recover.ensures.recovers.0 ∙ c.compare-places.ensures.0,
   λ v keeps.
-      let rec = c.choose-rec.ensures.1 v keeps in
-      let tec = c.choose-tec.ensures.1 v rec.0 in
-      let recovery = c.recover.ensures.1 v tec.0 in
+      let rec = c.choose-rec.ensures.number.1 v keeps in
+      let tec = c.choose-tec.ensures.number.1 v rec.0 in
+      let recovery = c.recover.ensures.recovers.1 v tec.0 in
       let places = c.compare-places.ensures.1 v recovery.0 in
       let zero_is = zero-kept v c.args.circuit.now places.0 in
       let no = value-never v zero_is in (

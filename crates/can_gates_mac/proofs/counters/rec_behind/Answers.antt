@@ -1,4 +1,4 @@
-use Rattle.std.proofs.Common.{◌≡◌, ◌<◌, ◌∙◌}
+use Rattle.std.proofs.Common.{◌<◌, ◌∙◌}
 use Rattle.can_gates.specs.Circuit.{value}
 use Rattle.can_gates.specs.Words.{number}
 use Rattle.can_gates.proofs.Constants.{zero-kept}
@@ -8,13 +8,16 @@ use Rattle.can_gates_mac.proofs.NibbleBits.{nibble-bits}
 use Rattle.can_gates_mac.proofs.Counts.{by_1_or_8, rec_bits}
 use Rattle.can_gates_mac.proofs.counters.rec_behind.Goals as goal
 
-pub returns : goal.returns
-returns c = (
-  c.choose.ensures.0 ∙ c.rec_received-received.ensures.0 ∙ c.raised-up.ensures.0 ∙ c.and-good.ensures.0 ∙ c.and-by_1.ensures.0 ∙ c.and-odd.ensures.0 ∙ c.and-by_8.ensures.0,
+pub returns-clause-places : goal.returns-clause-places
+returns-clause-places c = c.choose.ensures.places
+
+pub returns-clause-rec : goal.returns-clause-rec
+returns-clause-rec c = (
+  c.choose.ensures.number.0 ∙ c.rec_received-received.ensures.0 ∙ c.raised-up.ensures.number.0 ∙ c.and-good.ensures.0 ∙ c.and-by_1.ensures.0 ∙ c.and-odd.ensures.0 ∙ c.and-by_8.ensures.0,
   λ v keeps.
-      let made = c.choose.ensures.1 v keeps in
+      let made = c.choose.ensures.number.1 v keeps in
       let received = c.rec_received-received.ensures.1 v made.0 in
-      let up = c.raised-up.ensures.1 v received.0 in
+      let up = c.raised-up.ensures.number.1 v received.0 in
       let good = c.and-good.ensures.1 v up.0 in
       let by_1 = c.and-by_1.ensures.1 v good.0 in
       let odd = c.and-odd.ensures.1 v by_1.0 in

@@ -12,10 +12,10 @@ returns-clause-places c = c.lowered.ensures.places
 
 pub returns-clause-tec : goal.returns-clause-tec
 returns-clause-tec c = (
-  c.lowered.ensures.number.0 ∙ c.raised-up.ensures.0 ∙ c.and-falls.ensures.0 ∙ c.and-rises.ensures.0,
+  c.lowered.ensures.number.0 ∙ c.raised-up.ensures.number.0 ∙ c.and-falls.ensures.0 ∙ c.and-rises.ensures.0,
   λ v keeps.
       let made = c.lowered.ensures.number.1 v keeps in
-      let up = c.raised-up.ensures.1 v made.0 in
+      let up = c.raised-up.ensures.number.1 v made.0 in
       let falls = c.and-falls.ensures.1 v up.0 in
       let rises = c.and-rises.ensures.1 v falls.0 in
       let n = c.args.cause in

@@ -7,8 +7,11 @@ use Rattle.can_gates_mac.specs.Nibbles.{nibble}
 use Rattle.can_gates_mac.proofs.Recovering.{recovers}
 use Rattle.can_gates_mac.proofs.recovery.recover.Goals as goal
 
-pub returns : goal.returns
-returns c =
+pub returns-clause-places : goal.returns-clause-places
+returns-clause-places c = c.add-occurrences.ensures.places
+
+pub returns-clause-recovers : goal.returns-clause-recovers
+returns-clause-recovers c =
     let word = c.add-occurrences.result in (
       c.add-occurrences.ensures.sum.0 ∙ c.choose-row.ensures.0 ∙ c.and-full.ensures.0 ∙ c.and-early.ensures.0,
       λ v keeps.

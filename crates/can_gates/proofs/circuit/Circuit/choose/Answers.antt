@@ -24,8 +24,11 @@ loop-place-preserved g c =
       ),
     )
 
-pub returns : goal.returns
-returns g c =
+pub returns-clause-places : goal.returns-clause-places
+returns-clause-places g c = c.loop-place.invariant.0
+
+pub returns-clause-number : goal.returns-clause-number
+returns-clause-number g c =
     let l = c.loop-place in
     let a = c.args.a.now in
     let b = c.args.b.now in

@@ -9,9 +9,9 @@ returns-clause-places g c = c.complement.ensures.places
 
 pub returns-clause-number : goal.returns-clause-number
 returns-clause-number g c = (
-  c.raised-up.ensures.0,
+  c.raised-up.ensures.number.0,
   λ v keeps.
-      let up = c.raised-up.ensures.1 v keeps in
+      let up = c.raised-up.ensures.number.1 v keeps in
       let zero_is = zero-kept v c.args.self.now up.0 in
       (up.0, lowered_by (number v c.args.word.now) (number v (take g.row.N c.args.by.now)) (number v c.complement-turned.result) (number v c.raised-up.result) (number v c.complement.result) (2 ^ g.row.N) (c.complement-turned.ensures.number v zero_is) up.1 (c.complement.ensures.number v zero_is)),
 )

@@ -1,4 +1,4 @@
-use Rattle.std.proofs.Common.{arith, set, take, get_or, suc, length, add-one, ◌≡◌, ◌<◌, ◌∙◌}
+use Rattle.std.proofs.Common.{arith, set, take, suc, length, add-one, ◌≡◌, ◌<◌, ◌∙◌}
 use Rattle.std.proofs.lemmas.List.{take_all, length-set}
 use Rattle.can_gates.proofs.Constants.{zero-kept}
 use Rattle.can_gates.proofs.WordPlaces.{set_place, taken, or_place}
@@ -19,8 +19,11 @@ loop-place-preserved g c =
       ),
     )
 
-pub returns : goal.returns
-returns g c =
+pub returns-clause-places : goal.returns-clause-places
+returns-clause-places g c = c.loop-place.invariant.0
+
+pub returns-clause-number : goal.returns-clause-number
+returns-clause-number g c =
     let l = c.loop-place in
     let word = c.args.word.now in
     let e : l.place ≡ g.row.N = omega (arith, c.loop-place-test.false, l.auto.place-end) in (
