@@ -9,7 +9,7 @@ use Rattle.can_node.specs.Ports.{PortState, with_offer, port_offered, port_step}
 use Rattle.can_hit.specs.declared.hit.Hit.{Hit}
 use Rattle.can_bus.specs.declared.offer.Offer.{Offer}
 use Rattle.can_bus.specs.Course.{IsCourse, Transmission, course_tally, frames_sent}
-use Rattle.can_bus.specs.Network.{IsFreeAgain, IsNetworkCall, IsNextCall, NetworkLogWhole, NetworkTally, RestsAgain, counters_of}
+use Rattle.can_bus.specs.Network.{IsFreeAgain, IsNetworkCall, IsNextCall, NetworkLogWhole, NetworkTally, RestsAgain, port_tally}
 use Rattle.can_bus.specs.Offers.{call_after, AreOffered, all_made, made}
 use Rattle.can_bus.specs.Quiet.{AtEachNode, marked, queued}
 use Rattle.can_bus.specs.Attempts.{IsLow}
@@ -82,7 +82,7 @@ module _ (offers next : List Offer) (hits struck : List Hit) (before after : Bus
   own-next : (n : ℕ) (q : PortState) → slice_get after.ports n ≡ Some q → own_offers next n q ≡ offered_to n next
   own-next n q at = ap (λ queue. offered_first queue ++ offered_to n next) (empty-at n q at)
 
-  counters-at : (n : ℕ) (p q : PortState) → slice_get before.ports n ≡ Some p → slice_get after.ports n ≡ Some q → counters_of q ≡ course_tally (frames_of (own_offers offers n p)) course (counters_of p)
+  counters-at : (n : ℕ) (p q : PortState) → slice_get before.ports n ≡ Some p → slice_get after.ports n ≡ Some q → port_tally q ≡ course_tally (frames_of (own_offers offers n p)) course (port_tally p)
   counters-at n p q was at = tallies n p q was at
 
   pub next-network : IsNetworkCall next struck after behind
@@ -101,7 +101,7 @@ module _ (offers next : List Offer) (hits struck : List Hit) (before after : Bus
         record {
           idle = done.idle;
           low = subst IsLow (sym (counters-at n p q was.1 at))
-              (subst (λ some. IsLow (course_tally (frames_of (own_offers offers n p)) some (counters_of p))) (take_all (length course) course (omega arith))
+              (subst (λ some. IsLow (course_tally (frames_of (own_offers offers n p)) some (port_tally p))) (take_all (length course) course (omega arith))
               (call.borne n p was.1 (length course) (omega arith)));
           unasked = done.unasked;
           room = omega (arith, log, size, done.log_room, is.logs n p was.1);
@@ -117,6 +117,6 @@ module _ (offers next : List Offer) (hits struck : List Hit) (before after : Bus
     is_course = subst (λ all. IsCourse struck 0 0 all behind) (sym all-next) is.is_course;
     borne = λ n q at number within.
         let was = port-before n q at in
-        subst (λ own. IsLow (course_tally (frames_of own) (take number behind) (counters_of q))) (sym (own-next n q at))
+        subst (λ own. IsLow (course_tally (frames_of own) (take number behind) (port_tally q))) (sym (own-next n q at))
         (subst (λ t. IsLow (course_tally (frames_of (offered_to n next)) (take number behind) t)) (sym (counters-at n was.0 q was.1 at)) (is.borne n was.0 was.1 number within));
   }

@@ -10,7 +10,7 @@ use Rattle.can_node.proofs.WaitingLaws.{waiting-IsWaiting}
 use Rattle.can_hit.specs.declared.hit.Hit.{Hit}
 use Rattle.can_bus.specs.declared.offer.Offer.{Offer}
 use Rattle.can_bus.specs.Course.{FallsInWindow, HitInWindows, IsCourse, Transmission, attempt_of, attempted, course_from, course_of, hits_made, keeping, left_by, over}
-use Rattle.can_bus.specs.Network.{AllCountAtMost, CourseIsBorne, FieldsAreOwned, IsNetworkCall, counters_of}
+use Rattle.can_bus.specs.Network.{AllCountAtMost, CourseIsBorne, FieldsAreOwned, IsNetworkCall, port_tally}
 use Rattle.can_bus.specs.Attempts.{AreInAttempts, AreApart, hit_of}
 use Rattle.can_bus.specs.NetworkPlans.{AllInWindow, AreNoEarlier, IsNetworkPlan, network_course, offered_again, two_ports}
 use Rattle.can_bus.specs.Offers.{AreOffered, offer_names_port}
@@ -38,7 +38,7 @@ hits-few {hits} (attempted number free time f hit left course is told window res
 pub fifteen-borne : (offers : List Offer) (ports : List PortState) (course : List Transmission) (errors : ℕ) → AllCountAtMost errors ports → errors + hits_made course ≤ 15 → CourseIsBorne offers ports course
 fifteen-borne offers ports course errors most few n p at number within =
     let now = most n p at in
-    let all = few-course (frames_of (own_offers offers n p)) course number errors (counters_of p) (omega (arith, now.tec), omega (arith, now.rec)) in
+    let all = few-course (frames_of (own_offers offers n p)) course number errors (port_tally p) (omega (arith, now.tec), omega (arith, now.rec)) in
     record { tec = omega (arith, all.0, few); rec = omega (arith, all.1, few) }
 
 -- ---- the call

@@ -13,7 +13,7 @@ use Rattle.can_hit.specs.declared.hit.Hit.TheVariants.{At, In, View}
 use Rattle.can_bus.specs.declared.offer.Offer.{Offer}
 use Rattle.can_bus.specs.Course.{Transmission, course_tally}
 use Rattle.can_bus.specs.Attempts.{AreInAttempts, AreApart, IsLow, Tally, tallied}
-use Rattle.can_bus.specs.Network.{CountsAtMost, AllCountAtMost, IsFit, IsNetworkCall, counters_of}
+use Rattle.can_bus.specs.Network.{CountsAtMost, AllCountAtMost, IsFit, IsNetworkCall, port_tally}
 use Rattle.can_bus.specs.Offers.{call_after, all_made}
 use Rattle.can_bus.specs.Quiet.{holds}
 use Rattle.can_bus.specs.Run.{BusState}
@@ -181,15 +181,15 @@ module _ (offers : List Offer) (hits : List Hit) (course : List Transmission) (b
         fields = λ f. start-fields f offers bus.ports call.offered call.owned ∙ ap (of_field f) (sym (held-course offers 0 bus.ports));
       }
 
-  all-bear : (node : ℕ) (ports : List PortState) → EachFrom (λ n p. CourseBears (frames_of (own_offers offers n p)) course (counters_of p)) node ports → AllPorts (PortBears course) (all_course offers node ports)
+  all-bear : (node : ℕ) (ports : List PortState) → EachFrom (λ n p. CourseBears (frames_of (own_offers offers n p)) course (port_tally p)) node ports → AllPorts (PortBears course) (all_course offers node ports)
   all-bear node [] each = tt
   all-bear node (p ∷ ports) each = (each.0, all-bear (node + 1) ports each.1)
 
   pub call-bears : AllPorts (PortBears course) os
   call-bears =
-      all-bear 0 bus.ports (each-from (λ n p. CourseBears (frames_of (own_offers offers n p)) course (counters_of p)) 0 bus.ports
-      (λ n p at. subst (λ k. CourseBears (frames_of (own_offers offers k p)) course (counters_of p)) (let e : n ≡ 0 + n = omega arith in e)
-      (bears-from (frames_of (own_offers offers n p)) course (counters_of p) (call.borne n p at))))
+      all-bear 0 bus.ports (each-from (λ n p. CourseBears (frames_of (own_offers offers n p)) course (port_tally p)) 0 bus.ports
+      (λ n p at. subst (λ k. CourseBears (frames_of (own_offers offers k p)) course (port_tally p)) (let e : n ≡ 0 + n = omega arith in e)
+      (bears-from (frames_of (own_offers offers n p)) course (port_tally p) (call.borne n p at))))
 
   pub call-wire : IsGoing offers hits call-order call-within 0 bus (wire_with os None)
   unfolding call_after

@@ -7,7 +7,7 @@ use Rattle.can_node.specs.Ports.{PortState, IsPort, port_drives}
 use Rattle.can_bus.specs.declared.offer.Offer.{Offer}
 use Rattle.can_bus.specs.Course.{frames_sent}
 use Rattle.can_bus.specs.Schedule.{unhit, track_at}
-use Rattle.can_bus.specs.Network.{AllCountAtMost, IsFit, IsNetworkCall, counters_of}
+use Rattle.can_bus.specs.Network.{AllCountAtMost, IsFit, IsNetworkCall, port_tally}
 use Rattle.can_bus.specs.Offers.{call_after, call_level, call_refused, offered_now, all_made, played, played_level, refused, refused_at}
 use Rattle.can_bus.specs.OpenBus.{AreOver, IsOpenCall, OpenLogBegins, OpenLogWhole}
 use Rattle.can_bus.specs.Quiet.{AtEachNode, AtEachPort, CountsNothing, IsPrefixOf, IsQuietPort, MissesNothing, marked}
@@ -82,7 +82,7 @@ differ-owned offers node (r ∷ ports) apart (suc m) (suc n) p q less at there x
     (subst (λ k. Lists (own_offers offers k p) x) (let e : node + suc m ≡ (node + 1) + m = omega arith in e) a)
     (subst (λ k. Lists (own_offers offers k q) y) (let e : node + suc n ≡ (node + 1) + n = omega arith in e) b)
 
-pub quiet-low : (n : ℕ) (p : PortState) → IsQuietPort n p → IsLow (counters_of p)
+pub quiet-low : (n : ℕ) (p : PortState) → IsQuietPort n p → IsLow (port_tally p)
 quiet-low n p quiet = record { tec = omega (arith, quiet.tec); rec = omega (arith, quiet.rec) }
 
 pub quiet-fit : (entries : ℕ) (p : PortState) → IsQuietPort entries p → IsFit entries p
@@ -115,7 +115,7 @@ module _ (offers : List Offer) (starts : List TimedParts) (ports : List PortStat
         within = λ n hit at. absurd (let h : None ≡ Some hit = at in cc);
         apart = λ m n a b less at there. absurd (let h : None ≡ Some a = at in cc);
         is_course = call.scheduled.scheduled;
-        borne = λ n p at number within. unhit-low (frames_of (own_offers offers n p)) starts number (counters_of p) (quiet-low (length all) p (call.quiet n p at));
+        borne = λ n p at number within. unhit-low (frames_of (own_offers offers n p)) starts number (port_tally p) (quiet-low (length all) p (call.quiet n p at));
       }
 
 -- ---- the clauses

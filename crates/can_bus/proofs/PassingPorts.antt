@@ -10,7 +10,7 @@ use Rattle.can_mac.specs.Frames.{driven_with_intermission, role_drives, with_int
 use Rattle.can_mac.specs.State.{MacState}
 use Rattle.can_mac.proofs.FrameParts.{length-with_intermission}
 use Rattle.can_mac.proofs.FrameRoles.{role-own}
-use Rattle.can_node.specs.Passing.{HasHeard, IsAside}
+use Rattle.can_node.specs.Passing.{HasHeardFirst, IsAside}
 use Rattle.can_node.specs.Ports.{PortState, IsPort, port_drives, port_run}
 use Rattle.can_node.proofs.FrameLeaves.{goes-behind}
 use Rattle.can_node.proofs.FramesWaiting.{AreFrames-from, IsWaiting-waiting}
@@ -215,7 +215,7 @@ may-parts S f [] ys may = (tt, may)
 may-parts S f (x ∷ xs) ys may = let more = may-parts S f xs ys may.1 in ((may.0, more.0), more.1)
 
 -- a port that has sampled the first levels of f
-rides-to : (f : Parts) → IsFrame f → (p : PortState) → IsPort p → MayPass f p → (o : ℕ) → 0 < o → o < length (with_intermission f) → HasHeard f o (port_run p (take o (with_intermission f))).mac.phase
+rides-to : (f : Parts) → IsFrame f → (p : PortState) → IsPort p → MayPass f p → (o : ℕ) → 0 < o → o < length (with_intermission f) → HasHeardFirst f o (port_run p (take o (with_intermission f))).mac.phase
 rides-to f is p valid may zero some within = absurd (omega (arith, some))
 rides-to f is p valid (inl aside) (suc o) some within = λ front part. absurd ((aside-apart f is p valid aside (suc o) within).elsewhere front part)
 rides-to f is p valid (inr lets) (suc o) some within = λ front part.
@@ -224,14 +224,14 @@ rides-to f is p valid (inr lets) (suc o) some within = λ front part.
 
 -- the same, where these are the levels
 rides-front : (f : Parts) → IsFrame f → (p q : PortState) → IsPort p → MayPass f p → (front : List Level) → front ≡ take (length front) (with_intermission f) → 0 < length front → length front < length (stuffed_part f) →
-    q ≡ port_run p front → HasHeard f (length front) q.mac.phase
+    q ≡ port_run p front → HasHeardFirst f (length front) q.mac.phase
 rides-front f is p q valid may front of some within runs =
-    subst (λ (state : PortState). HasHeard f (length front) state.mac.phase) (sym (runs ∙ ap (port_run p) of)) (rides-to f is p valid may (length front) some (omega (arith, within, length-with_intermission f)))
+    subst (λ (state : PortState). HasHeardFirst f (length front) state.mac.phase) (sym (runs ∙ ap (port_run p) of)) (rides-to f is p valid may (length front) some (omega (arith, within, length-with_intermission f)))
 
 -- the ports before and behind the sender, and what it has heard
 pub rides-others : {X : Type 0} (S : X → PortState) (f : Parts) → IsFrame f → (sender : X) → IsPort (S sender) → (xs before behind : List X) → xs ≡ before ++ sender ∷ behind → PassesBus f (map S xs) →
     (front : List Level) → front ≡ take (length front) (with_intermission f) → 0 < length front → length front < length (stuffed_part f) → (q : PortState) → q ≡ port_run (S sender) front →
-    MayPassAll f (map S before) × MayPassAll f (map S behind) × HasHeard f (length front) q.mac.phase
+    MayPassAll f (map S before) × MayPassAll f (map S behind) × HasHeardFirst f (length front) q.mac.phase
 rides-others S f is sender valid xs before behind cut passes front of some within q runs =
     let may = may-parts S f before (sender ∷ behind) (subst (λ ys. MayPassAll f (map S ys)) cut (bus-may f (map S xs) passes)) in
     (may.0, may.1.1, rides-front f is (S sender) q valid may.1.0 front of some within runs)

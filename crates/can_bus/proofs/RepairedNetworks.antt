@@ -6,7 +6,7 @@ use Rattle.can_frame.specs.Parts.{Parts}
 use Rattle.can_node.specs.Ports.{PortState, IsPort}
 use Rattle.can_hit.specs.declared.hit.Hit.{Hit}
 use Rattle.can_bus.specs.Course.{AllEnded, Transmission, course_at, course_tally, frames_sent}
-use Rattle.can_bus.specs.Network.{AllCountAtMost, IsFit, IsNetworkCall, counters_of}
+use Rattle.can_bus.specs.Network.{AllCountAtMost, IsFit, IsNetworkCall, port_tally}
 use Rattle.can_bus.specs.Offers.{call_after}
 use Rattle.can_bus.specs.Quiet.{AreDifferent, AtEachPort, CountsNothing, IsAscending, IsPrefixOf, LogsBegin, LogsWhole, MissesNothing, marked, queued}
 use Rattle.can_bus.specs.Attempts.{IsLow, Tally}
@@ -61,7 +61,7 @@ module _ (hits : List Hit) (bus : BusState) (valid : AllPorts IsPort bus.ports) 
   all-left : AreLeft frames (all_offers [] bus.ports)
   all-left = left-ascending (all_offers [] bus.ports) frames different (first-times (queued bus.ports)) (subst (λ fs. IsAscending fs frames) (sym (all-queued bus.ports)) call.ascending)
 
-  start-tally : (node : ℕ) (p : PortState) → slice_get bus.ports node ≡ Some p → counters_of p ≡ no_errors
+  start-tally : (node : ℕ) (p : PortState) → slice_get bus.ports node ≡ Some p → port_tally p ≡ no_errors
   start-tally node p at =
       let quiet = call.quiet.quiet node p at in
       ap (λ t. let u : Tally = record { tec = t; rec = p.mac.counters.rec } in u) quiet.tec ∙ ap (λ r. let u : Tally = record { tec = 0; rec = r } in u) quiet.rec
@@ -88,7 +88,7 @@ module _ (hits : List Hit) (bus : BusState) (valid : AllPorts IsPort bus.ports) 
     is_course = plan-course planned (all_offers [] bus.ports) call.ascending.rising all-left;
     borne = λ n p at number within.
         subst IsLow
-        (sym (ap (λ queue. course_tally queue (take number course) (counters_of p)) (own-queue n p)
+        (sym (ap (λ queue. course_tally queue (take number course) (port_tally p)) (own-queue n p)
         ∙ ap (course_tally p.queue (take number course)) (start-tally n p at)))
         (is-borne n p at number);
   }
@@ -140,4 +140,4 @@ module _ (hits : List Hit) (bus : BusState) (valid : AllPorts IsPort bus.ports) 
       pub repaired-tally : AtEachPort (CountsAs frames hits) bus.ports after.ports
       repaired-tally node p q before now =
           network-tally [] hits course bus valid no-framed repaired-network n after is-call ended node p q before now
-          ∙ ap (λ queue. course_tally queue course (counters_of p)) (own-queue node p) ∙ ap (course_tally p.queue course) (start-tally node p before)
+          ∙ ap (λ queue. course_tally queue course (port_tally p)) (own-queue node p) ∙ ap (course_tally p.queue course) (start-tally node p before)

@@ -10,7 +10,7 @@ use Rattle.can_bus.specs.declared.offer.Offer.{Offer}
 use Rattle.can_bus.specs.Disturbed.{FallsOnWire, begins_at, level_then, rest_before}
 use Rattle.can_bus.specs.DisturbedPlay.{IsDisturbedPlay}
 use Rattle.can_bus.specs.Run.{AreLevelsOf, BusState, CallState, begins_attempt, bus_step, hits_view, hits_wire, inverted_if, recorded as recorded_by, rest_after, wired_level}
-use Rattle.can_bus.specs.WireSteps.{AreRecorded, WireState, is_struck, seen_by, wire_after, wire_attempt, wire_begun, wire_level, wire_of, wire_step, wire_then}
+use Rattle.can_bus.specs.WireSteps.{AreRecorded, WireState, is_struck, wire_after, wire_attempt, wire_begun, wire_level, wire_of, wire_seen, wire_step, wire_then}
 use Rattle.can_bus.proofs.DisturbedTimes.{LatestIs, latest-none, latest-more, rest_before-none, rest_before-more, rest_after-capped, begins_attempt-capped, inverted-tells, inverted-told, view-decided, wire-decided}
 
 -- the wire of a bus
@@ -122,7 +122,7 @@ play-levels offers hits before after wired recorded seen refused rested play = r
 pub play-views : (offers : List Offer) (hits : List Hit) (before after : BusState) (wired recorded : List Level) (seen : List (List Level)) (refused : ℕ) →
     before.rest ≤ 11 → IsDisturbedPlay offers hits before wired recorded seen after refused →
     (node : ℕ) (levels : List Level) → slice_get seen node ≡ Some levels →
-    AreLevelsOf (λ t. seen_by hits t (wire_then hits wired t (wire_begun before.rest)) node) levels
+    AreLevelsOf (λ t. wire_seen hits t (wire_then hits wired t (wire_begun before.rest)) node) levels
 play-views offers hits before after wired recorded seen refused rested play node levels own t inside =
     let among : node < length seen = slice_get_within seen node levels own in
     let same : get_or seen node [] ≡ levels = get_or_from_slice_get seen node levels [] own in

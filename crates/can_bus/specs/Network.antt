@@ -19,13 +19,13 @@ use Rattle.can_bus.specs.Timed.{Lists, TimedParts, frames_of, all_offers, offere
 -- What is asked of it.
 
 -- the counters of a port
-abbrev pub counters_of : PortState → Tally
-counters_of p = record { tec = p.mac.counters.tec; rec = p.mac.counters.rec }
+abbrev pub port_tally : PortState → Tally
+port_tally p = record { tec = p.mac.counters.tec; rec = p.mac.counters.rec }
 
 -- an idle port that is error active and asks for no overload frame, with room in its log for so many entries more
 pub record IsFit (entries : ℕ) (p : PortState) : Type 0 where
   pub idle : p.mac.phase ≡ Idle
-  pub low : IsLow (counters_of p)
+  pub low : IsLow (port_tally p)
   pub unasked : p.mac.overloads.pending ≡ 0
   pub room : length p.log + entries ≤ p.log_room
 
@@ -37,7 +37,7 @@ FieldsAreOwned offers ports = (m n : ℕ) (p q : PortState) → m < n → slice_
 -- the tally of each port stays that of an error active one, behind each attempt
 abbrev pub CourseIsBorne : List Offer → List PortState → List Transmission → Type 0
 CourseIsBorne offers ports course = (n : ℕ) (p : PortState) → slice_get ports n ≡ Some p → (number : ℕ) → number ≤ length course →
-    IsLow (course_tally (frames_of (own_offers offers n p)) (take number course) (counters_of p))
+    IsLow (course_tally (frames_of (own_offers offers n p)) (take number course) (port_tally p))
 
 -- A call on a bus at rest, with these offers and hits, whose attempts are this course.
 pub record IsNetworkCall (offers : List Offer) (hits : List Hit) (bus : BusState) (course : List Transmission) : Type 0 where
@@ -90,7 +90,7 @@ AllCountAtMost errors ports = (n : ℕ) (p : PortState) → slice_get ports n �
 
 -- its counters are those of the tally
 abbrev pub NetworkTally : List Offer → List Transmission → ℕ → PortState → PortState → Type 0
-NetworkTally offers course node p q = counters_of q ≡ course_tally (frames_of (own_offers offers node p)) course (counters_of p)
+NetworkTally offers course node p q = port_tally q ≡ course_tally (frames_of (own_offers offers node p)) course (port_tally p)
 
 -- Calls that follow one another.
 
@@ -124,4 +124,4 @@ pub record IsNextCall (offers : List Offer) (course : List Transmission) (ports 
   pub is_course : IsCourse hits 0 0 (map timed next) behind
   -- the tally goes on from that of the first call
   pub borne : (n : ℕ) (p : PortState) → slice_get ports n ≡ Some p → (number : ℕ) → number ≤ length behind →
-      IsLow (course_tally (frames_of (offered_to n next)) (take number behind) (course_tally (frames_of (own_offers offers n p)) course (counters_of p)))
+      IsLow (course_tally (frames_of (offered_to n next)) (take number behind) (course_tally (frames_of (own_offers offers n p)) course (port_tally p)))

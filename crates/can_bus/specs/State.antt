@@ -21,5 +21,5 @@ abbrev pub rest_of : {P : Type 0} → Bus P → ℕ
 rest_of bus = bus.rest
 
 -- the bus, by what its ports are
-abbrev pub state_of : {P : Type 0} → (P → PortState) → Bus P → BusState
-state_of port bus = record { ports = port_states port bus; rest = rest_of bus }
+abbrev pub bus_state : {P : Type 0} → (P → PortState) → Bus P → BusState
+bus_state port bus = record { ports = port_states port bus; rest = rest_of bus }

@@ -39,8 +39,8 @@ abbrev pub wire_level : List Hit → WireState → Level → Level
 wire_level hits w driven = inverted_if (is_struck hits w driven) driven
 
 -- what who has this number sees of a level
-abbrev pub seen_by : List Hit → ℕ → Level → ℕ → Level
-seen_by hits time level node = inverted_if (list_any (hits_view time node) hits) level
+abbrev pub wire_seen : List Hit → ℕ → Level → ℕ → Level
+wire_seen hits time level node = inverted_if (list_any (hits_view time node) hits) level
 
 -- one bit time later, where it has had this level
 abbrev pub wire_behind : WireState → Level → Level → WireState

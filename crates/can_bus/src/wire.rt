@@ -10,16 +10,6 @@ use std::simd::prelude::*;
 /// How many levels are wired at once: as many as `u8x32` has lanes.
 const LANES: usize = 32;
 
-/// A level as a lane.
-fn bit(level: Level) -> u8
-    ensures { result ≡ level_code level }
-{
-    match level {
-        Level::Dominant => 0,
-        Level::Recessive => 1,
-    }
-}
-
 /// A full vector of levels as lanes.
 fn lanes(levels: &[Level; LANES]) -> u8x32
     ensures lanes { result ≡ map level_code levels.now }
@@ -27,7 +17,7 @@ fn lanes(levels: &[Level; LANES]) -> u8x32
 {
     let mut bits = [0; LANES];
     for place in 0..LANES {
-        bits[place] = bit(levels[place]);
+        bits[place] = levels[place].code();
     }
     u8x32::from_array(bits)
 }

@@ -6,7 +6,7 @@ ghost use Rattle.can_hit.specs.declared.hit.Hit.{Hit as Disturbance};
 ghost use Rattle.can_bus.specs.declared.offer.Offer.{Offer};
 ghost use Rattle.can_bus.specs.DisturbedPlay.{IsDisturbedPlay};
 ghost use Rattle.can_bus.specs.Run.{AreLevelsOf, BusState, CallState, bus_step, recorded as recorded_by, wired_level};
-ghost use Rattle.can_bus.specs.WireSteps.{AreRecorded, seen_by, wire_begun, wire_level, wire_of, wire_step, wire_then};
+ghost use Rattle.can_bus.specs.WireSteps.{AreRecorded, wire_begun, wire_level, wire_of, wire_seen, wire_step, wire_then};
 
 /// In each bit time of a call a bus records the level of a wire that is driven by its ports, and leaves the wire as one
 /// bit time leaves it.
@@ -27,5 +27,5 @@ pub fn a_wire_is_that_of_a_play()
     ensures views { (offers : List Offer) (hits : List Disturbance) (before after : BusState) (wired recorded : List Level) (seen : List (List Level)) (refused : ℕ) →
         before.rest ≤ idle_row → IsDisturbedPlay offers hits before wired recorded seen after refused →
         (node : ℕ) (levels : List Level) → slice_get seen node ≡ Some levels →
-        AreLevelsOf (λ t. seen_by hits t (wire_then hits wired t (wire_begun before.rest)) node) levels }
+        AreLevelsOf (λ t. wire_seen hits t (wire_then hits wired t (wire_begun before.rest)) node) levels }
 {}

@@ -17,16 +17,16 @@ use Rattle.can_bus.specs.declared.fault.BusFault.TheVariants as bus
 use Rattle.can_bus.specs.declared.offer.Offer.{Offer}
 use Rattle.can_bus.specs.Network.{IsNetworkCall, OnNetworkCall}
 use Rattle.can_bus.specs.Offers.{call_after, call_level, call_refused, offered_now, AreOffered}
-use Rattle.can_bus.specs.Run.{AreLevelsOf, BusState}
+use Rattle.can_bus.specs.Run.{AreLevelsOf, BusState, new_bus}
 use Rattle.can_bus.proofs.OfferLemmas.{length-all_made}
-use Rattle.can_bus.proofs.RunLemmas.{length-step}
+use Rattle.can_bus.proofs.RunLemmas.{length-step, new_bus-is}
 use Rattle.can_c.specs.declared.handle.Handle.{Handle}
 use Rattle.can_c.specs.declared.inputs.PlainHit.{PlainHit}
 use Rattle.can_c.specs.declared.inputs.PlainOffer.{PlainOffer}
 use Rattle.can_c.specs.declared.plain.PlainFrame.{PlainFrame}
 use Rattle.can_c.specs.declared.status.Status.{Status}
 use Rattle.can_c.specs.declared.status.Status.TheVariants.{Done, NoPort, NoMemory, BadFlag, BadIdentifier, BadDlc, BadBus, BadKind}
-use Rattle.can_c.specs.Play.{AreCodesOf, IsNetworkRun, IsPlayCall, IsPlayFault, IsPlayRefusal, bus_held, bus_of, held_by, held_in, lacks_port, play_refusal, ports_refusal}
+use Rattle.can_c.specs.Play.{AreCodesOf, IsNetworkRun, IsPlayCall, IsPlayFault, IsPlayRefusal, bus_held, held_by, held_in, lacks_port, play_refusal, ports_refusal}
 use Rattle.can_c.specs.PlainFrames.{refusal}
 use Rattle.can_c.specs.PlainInputs.{first_reason, hits_of_plain, hits_refusal, kind_refusal, offers_of_plain, offers_refusal}
 use Rattle.can_c.specs.Statuses.{bus_status}
@@ -34,12 +34,8 @@ use Rattle.can_c.proofs.HandleLists.{ports-held}
 
 -- ---- a bus
 
-pub bus-is : (ports others : List PortState) (rest : ℕ) → ports ≡ others → rest ≡ 11 → (let start : BusState = record { ports = ports; rest = rest } in start) ≡ bus_of others
-bus-is ports others rest same at =
-    ap (λ ps. let start : BusState = record { ports = ps; rest = rest } in start) same ∙ ap (λ r. let start : BusState = record { ports = others; rest = r } in start) at
-
-pub bus-held : (held : List (Option PortState)) (ports : List PortState) → held ≡ map Some ports → bus_of ports ≡ bus_held held
-bus-held held ports is = sym (ap bus_held is ∙ ap bus_of (ports-held ports))
+pub bus-held : (held : List (Option PortState)) (ports : List PortState) → held ≡ map Some ports → new_bus ports ≡ bus_held held
+bus-held held ports is = sym (ap bus_held is ∙ ap new_bus (ports-held ports))
 
 -- a call has as many ports behind it
 pub length-call : (offers : List Offer) (hits : List Hit) (n : ℕ) (start : BusState) → length (call_after offers hits n start).bus.ports ≡ length start.ports
@@ -54,10 +50,10 @@ module _ {N : Type 0} (port : N → PortState) (offers : List Offer) (hits : Lis
   abbrev start : BusState
   start = record { ports = map port before; rest = rest }
 
-  pub begun : start ≡ bus_of (map port nodes)
-  begun = bus-is (map port before) (map port nodes) rest (ap (map port) is) rested
+  pub begun : start ≡ new_bus (map port nodes)
+  begun = new_bus-is (map port before) (map port nodes) rest (ap (map port) is) rested
 
-  pub run-ports : (let ended : BusState = record { ports = map port after; rest = end } in ended) ≡ (call_after offers hits k start).bus → map port after ≡ (call_after offers hits k (bus_of (map port nodes))).bus.ports
+  pub run-ports : (let ended : BusState = record { ports = map port after; rest = end } in ended) ≡ (call_after offers hits k start).bus → map port after ≡ (call_after offers hits k (new_bus (map port nodes))).bus.ports
   run-ports ran = ap (λ (b : BusState). b.ports) (ran ∙ ap (λ (b : BusState). (call_after offers hits k b).bus) begun)
 
   pub run-size : (let ended : BusState = record { ports = map port after; rest = end } in ended) ≡ (call_after offers hits k start).bus → length after ≡ length nodes
@@ -212,15 +208,15 @@ module _ (first handles : List Handle) (plain : List PlainOffer) (given : List P
 -- ---- handles whose ports have been on a bus, and are back
 
 module _ (first last : List Handle) (before after : List PortState) (lent : held_in first ≡ map Some before) (back : held_in last ≡ map Some after) where
-  pub back-ports : (offers : List Offer) (hits : List Hit) (k : ℕ) → after ≡ (call_after offers hits k (bus_of before)).bus.ports → held_in last ≡ map Some (call_after offers hits k (bus_held (held_in first))).bus.ports
+  pub back-ports : (offers : List Offer) (hits : List Hit) (k : ℕ) → after ≡ (call_after offers hits k (new_bus before)).bus.ports → held_in last ≡ map Some (call_after offers hits k (bus_held (held_in first))).bus.ports
   back-ports offers hits k is =
       back ∙ ap (map Some) is ∙ ap (λ (b : BusState). map Some (call_after offers hits k b).bus.ports) (bus-held (held_in first) before lent)
 
-  pub back-levels : (offers : List Offer) (hits : List Hit) (recorded : List Level) → AreLevelsOf (λ t. call_level offers hits t (bus_of before)) recorded
+  pub back-levels : (offers : List Offer) (hits : List Hit) (recorded : List Level) → AreLevelsOf (λ t. call_level offers hits t (new_bus before)) recorded
       → AreLevelsOf (λ t. call_level offers hits t (bus_held (held_in first))) recorded
   back-levels offers hits recorded is = subst (λ (b : BusState). AreLevelsOf (λ t. call_level offers hits t b) recorded) (bus-held (held_in first) before lent) is
 
-  pub back-count : (offers : List Offer) (hits : List Hit) (k count : ℕ) → count ≡ call_refused offers hits k (bus_of before) → count ≡ call_refused offers hits k (bus_held (held_in first))
+  pub back-count : (offers : List Offer) (hits : List Hit) (k count : ℕ) → count ≡ call_refused offers hits k (new_bus before) → count ≡ call_refused offers hits k (bus_held (held_in first))
   back-count offers hits k count is = is ∙ ap (λ (b : BusState). call_refused offers hits k b) (bus-held (held_in first) before lent)
 
 -- ---- a network

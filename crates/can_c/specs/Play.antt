@@ -2,7 +2,6 @@
 use Rattle.std.specs.Prelude.{ℕ, ◌≡◌, ◌<◌, ◌⊎◌, ◌==◌, nat_lt, Bool, true, false, if◌then◌else◌, List, [], ◌∷◌, length, map, Option, Some, None, slice_get}
 use Rattle.std.specs.Option.{option_or}
 use Rattle.can_frame.specs.declared.level.Level.{Level}
-use Rattle.can_frame.specs.IdleRow.{idle_row}
 use Rattle.can_frame.specs.Levels.{level_code}
 use Rattle.can_node.specs.Ports.{PortState}
 use Rattle.can_hit.specs.declared.hit.Hit.{Hit}
@@ -14,7 +13,7 @@ use Rattle.can_bus.specs.Inputs.{IsFirstHitFault}
 use Rattle.can_bus.specs.Offers.{AreOffered, IsFirstOfferFault}
 use Rattle.can_bus.specs.Network.{NetworkLogBegins, NetworkLogHas, NetworkLogWhole, NetworkTally, StaysActive}
 use Rattle.can_bus.specs.Quiet.{AtEachNode, AtEachPort, MissesNothing}
-use Rattle.can_bus.specs.Run.{AreLevelsOf, BusState}
+use Rattle.can_bus.specs.Run.{AreLevelsOf, BusState, new_bus}
 use Rattle.can_c.specs.declared.handle.Handle.{Handle}
 use Rattle.can_c.specs.declared.inputs.PlainHit.{PlainHit}
 use Rattle.can_c.specs.declared.inputs.PlainOffer.{PlainOffer}
@@ -42,12 +41,9 @@ ports_held [] = []
 ports_held (None ∷ held) = ports_held held
 ports_held (Some p ∷ held) = p ∷ ports_held held
 
--- the bus of these ports: eleven recessive levels count as recorded last
-abbrev pub bus_of : List PortState → BusState
-bus_of ports = record { ports = ports; rest = idle_row }
-
+-- a new bus of these ports
 abbrev pub bus_held : List (Option PortState) → BusState
-bus_held held = bus_of (ports_held held)
+bus_held held = new_bus (ports_held held)
 
 -- the numbers of levels are those of this line
 abbrev pub AreCodesOf : (ℕ → Level) → List ℕ → Type 0

@@ -4,7 +4,7 @@ ghost use Rattle.std.specs.List.{list_any};
 ghost use Rattle.can_frame.specs.Levels.{level_code};
 ghost use Rattle.can_bus.specs.Run.{hits_view as hits_view_of, hits_wire as hits_wire_of, inverted_if};
 ghost use Rattle.can_bus.specs.Walks.{IsPassed};
-ghost use Rattle.can_bus.specs.WireSteps.{seen_by, wire_level, wire_step};
+ghost use Rattle.can_bus.specs.WireSteps.{wire_level, wire_seen, wire_step};
 ghost use Rattle.can_c.specs.declared.inputs.PlainHit.{PlainHit as Plain};
 ghost use Rattle.can_c.specs.PlainInputs.{first_reason, hit_of_plain, hits_of_plain};
 ghost use Rattle.can_c.specs.PlainWires.{have_come as have_come_of, is_wire as is_wire_of, latest_of, struck_refusal, wire_of_plain, wire_status, wired_in};
@@ -48,7 +48,7 @@ pub extern "C" fn can_c_wire(
     ensures after { result ≡ done → wire_of_plain wire.new ≡ wire_step (hits_of_plain hits.now) (wire_of_plain wire.old) (wired_in drives.now) }
     ensures whole { result ≡ done → wire.new.time < 2 ^ 64 - 1 → is_wire_of wire.new ≡ true }
     ensures level { result ≡ done → level.new ≡ level_code (wire_level (hits_of_plain hits.now) (wire_of_plain wire.old) (wired_in drives.now)) }
-    ensures seen { result ≡ done → AreCodesOf (seen_by (hits_of_plain hits.now) wire.old.time (wire_level (hits_of_plain hits.now) (wire_of_plain wire.old) (wired_in drives.now))) seen.new }
+    ensures seen { result ≡ done → AreCodesOf (wire_seen (hits_of_plain hits.now) wire.old.time (wire_level (hits_of_plain hits.now) (wire_of_plain wire.old) (wired_in drives.now))) seen.new }
     ensures unchanged { result ≢ done → wire.new ≡ wire.old }
     ensures unwritten { result ≢ done → (level.new ≡ level.old) × (seen.new ≡ seen.old) }
 {
@@ -73,7 +73,7 @@ fn bit_time(wire: &mut PlainWire, driven: Level, hits: &[PlainHit], seen: &mut [
     ensures after { wire_of_plain wire.new ≡ wire_step (hits_of_plain hits.now) (wire_of_plain wire.old) driven }
     ensures whole { wire.new.time < 2 ^ 64 - 1 → is_wire_of wire.new ≡ true }
     ensures level { result ≡ wire_level (hits_of_plain hits.now) (wire_of_plain wire.old) driven }
-    ensures seen { AreCodesOf (seen_by (hits_of_plain hits.now) wire.old.time (wire_level (hits_of_plain hits.now) (wire_of_plain wire.old) driven)) seen.new }
+    ensures seen { AreCodesOf (wire_seen (hits_of_plain hits.now) wire.old.time (wire_level (hits_of_plain hits.now) (wire_of_plain wire.old) driven)) seen.new }
 {
     let mut passing = wire.wire();
     let moment = passing.moment(driven);
@@ -137,7 +137,7 @@ fn hits_view(hit: &PlainHit, moment: &Moment, number: usize) -> bool
 
 /// Writes what each sees of the level.
 fn tell_each(hits: &[PlainHit], moment: &Moment, level: Level, seen: &mut [u8])
-    ensures { AreCodesOf (seen_by (hits_of_plain hits.now) moment.now.time level) seen.new }
+    ensures { AreCodesOf (wire_seen (hits_of_plain hits.now) moment.now.time level) seen.new }
 {
     for number in 0..seen.len() {
         seen[number] = told(falls_at(hits, moment, number), level);

@@ -4,10 +4,10 @@ ghost use Rattle.can_frame.specs.Levels.{levels_of_codes};
 ghost use Rattle.can_hit.specs.Hits.{AreTaken};
 ghost use Rattle.can_bus.specs.Network.{OnNetworkCall};
 ghost use Rattle.can_bus.specs.Offers.{call_after, call_level, call_refused, AreOffered};
-ghost use Rattle.can_bus.specs.Run.{AreLevelsOf};
+ghost use Rattle.can_bus.specs.Run.{AreLevelsOf, new_bus};
 ghost use Rattle.can_bus.specs.declared.fault.BusFault.{BusFault as Fault};
 ghost use Rattle.can_c.specs.declared.status.Status.{Status as Why};
-ghost use Rattle.can_c.specs.Play.{AreCodesOf, IsNetworkRun, IsPlayFault, IsPlayRefusal, IsPlayCall, bus_held, bus_of, held_in, lacks_port, ports_held, ports_refusal};
+ghost use Rattle.can_c.specs.Play.{AreCodesOf, IsNetworkRun, IsPlayFault, IsPlayRefusal, IsPlayCall, bus_held, held_in, lacks_port, ports_held, ports_refusal};
 ghost use Rattle.can_c.specs.PlainInputs.{hits_of_plain, offers_of_plain};
 ghost use Rattle.can_c.specs.Statuses.{bus_status, done, status_code};
 
@@ -192,10 +192,10 @@ fn run_nodes(
     ensures each { length result.0.items ≡ length nodes.items }
     ensures taken { IsOk result.1 ↔ (AreOffered (length nodes.items) offers.now × AreTaken (length nodes.items) hits.now) }
     ensures fault { IfErr result.1 (λ fault. IsPlayFault (length nodes.items) offers.now hits.now fault) }
-    ensures ports { OnOk result.1 (map ⟦<PackedNode as Port>⟧.port result.0.items ≡ (call_after offers.now hits.now (length recorded.new) (bus_of (map ⟦<PackedNode as Port>⟧.port nodes.items))).bus.ports) }
-    ensures levels { OnOk result.1 (AreLevelsOf (λ t. call_level offers.now hits.now t (bus_of (map ⟦<PackedNode as Port>⟧.port nodes.items))) recorded.new) }
-    ensures count { IfOk result.1 (λ count. count ≡ call_refused offers.now hits.now (length recorded.new) (bus_of (map ⟦<PackedNode as Port>⟧.port nodes.items))) }
-    ensures network { OnNetworkCall offers.now hits.now (bus_of (map ⟦<PackedNode as Port>⟧.port nodes.items)) (λ course. IsNetworkRun offers.now course recorded.new (map ⟦<PackedNode as Port>⟧.port nodes.items) (map ⟦<PackedNode as Port>⟧.port result.0.items)) }
+    ensures ports { OnOk result.1 (map ⟦<PackedNode as Port>⟧.port result.0.items ≡ (call_after offers.now hits.now (length recorded.new) (new_bus (map ⟦<PackedNode as Port>⟧.port nodes.items))).bus.ports) }
+    ensures levels { OnOk result.1 (AreLevelsOf (λ t. call_level offers.now hits.now t (new_bus (map ⟦<PackedNode as Port>⟧.port nodes.items))) recorded.new) }
+    ensures count { IfOk result.1 (λ count. count ≡ call_refused offers.now hits.now (length recorded.new) (new_bus (map ⟦<PackedNode as Port>⟧.port nodes.items))) }
+    ensures network { OnNetworkCall offers.now hits.now (new_bus (map ⟦<PackedNode as Port>⟧.port nodes.items)) (λ course. IsNetworkRun offers.now course recorded.new (map ⟦<PackedNode as Port>⟧.port nodes.items) (map ⟦<PackedNode as Port>⟧.port result.0.items)) }
     ensures unchanged { OnErr result.1 (map ⟦<PackedNode as Port>⟧.port result.0.items ≡ map ⟦<PackedNode as Port>⟧.port nodes.items) }
 {
     let Ok(mut bus) = Bus::new(nodes) else {

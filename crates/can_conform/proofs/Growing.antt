@@ -5,7 +5,7 @@ use Rattle.std.proofs.lemmas.Bool.{cases_order}
 use Rattle.std.proofs.lemmas.Bool.Decides.{nat_tests}
 use Rattle.std.proofs.lemmas.Option.{slice_get_within}
 use Rattle.can_conform.specs.declared.timed.Timed.{Timed}
-use Rattle.can_conform.specs.Transcripts.{timed, item_at, AreRising, EndBefore, Tells}
+use Rattle.can_conform.specs.Transcripts.{at_time, item_at, AreRising, EndBefore, Tells}
 use Rattle.can_conform.proofs.TimedLemmas.{item_at-past}
 
 -- an element of a list with one more at its end
@@ -115,6 +115,6 @@ told-all at xs n none before = record {
 }
 
 -- one bit time more, whatever comes in it
-pub told-next : {A : Type 0} (at : ℕ → Option A) (xs : List (Timed A)) (n : ℕ) (o : Option A) → o ≡ at n → IsToldUpTo at xs n → IsToldUpTo at (xs ++ timed n o) (n + 1)
+pub told-next : {A : Type 0} (at : ℕ → Option A) (xs : List (Timed A)) (n : ℕ) (o : Option A) → o ≡ at n → IsToldUpTo at xs n → IsToldUpTo at (xs ++ at_time n o) (n + 1)
 told-next at xs n None is before = rw append-nil (told-still at xs n (sym is) before)
 told-next at xs n (Some y) is before = told-more at xs n y (sym is) before

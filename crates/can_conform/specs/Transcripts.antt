@@ -22,9 +22,9 @@ told_before held [] t = held
 told_before held (x ∷ xs) t = if nat_lt x.time t then told_before x.told xs t else held
 
 -- what comes at time t, if something does
-abbrev pub timed : {A : Type 0} → ℕ → Option A → List (Timed A)
-timed t None = []
-timed t (Some x) = record { time = t; told = x } ∷ []
+abbrev pub at_time : {A : Type 0} → ℕ → Option A → List (Timed A)
+at_time t None = []
+at_time t (Some x) = record { time = t; told = x } ∷ []
 
 -- their times rise
 abbrev pub AreRising : {A : Type 0} → List (Timed A) → Type 0
@@ -97,7 +97,7 @@ pub record IsTranscript (s : Script) (told : Transcript) : Type 0 where
 -- what comes before bit time n
 unfoldable pub told_upto : {A : Type 0} → (ℕ → Option A) → ℕ → List (Timed A)
 told_upto at zero = []
-told_upto at (suc n) = told_upto at n ++ timed n (at n)
+told_upto at (suc n) = told_upto at n ++ at_time n (at n)
 
 -- the levels that are driven before bit time n
 unfoldable pub driven_upto : Script → ℕ → List Level

@@ -1,6 +1,6 @@
 //! The transcript of the reference.
 ghost use Rattle.std.specs.Prelude.{◌≡◌, ◌<◌, ◌^◌, ◌-◌, ◌++◌, if◌then◌else◌, length, option_to_list, IfOk, None, OnOk, Some};
-ghost use Rattle.can_conform.specs.Transcripts.{same_counters, timed, IsTranscript};
+ghost use Rattle.can_conform.specs.Transcripts.{at_time, same_counters, IsTranscript};
 
 use crate::bench::Bench;
 use crate::meeting::ending_of;
@@ -59,7 +59,7 @@ fn push_timed<T: Drop>(
     time: u32,
     element: Option<T>,
 ) -> Result<(), AllocError>
-    ensures { OnOk result (list.new.items ≡ list.old.items ++ timed time element) }
+    ensures { OnOk result (list.new.items ≡ list.old.items ++ at_time time element) }
 {
     if let Some(told) = element {
         list.push(Timed { time, told })?;

@@ -1,6 +1,6 @@
 //! The text of a frame: one line, and one spelling a frame. `read` reads its parts, and `write`
 //! writes them.
-ghost use Rattle.std.specs.Prelude.{◌≡◌, ◌≤◌, length, IfOk, IfErr};
+ghost use Rattle.std.specs.Prelude.{◌≡◌, ◌+◌, ◌≤◌, ◌++◌, length, IfOk, IfErr};
 ghost use Rattle.std.specs.Str.{IsAscii};
 ghost use Rattle.can_frame.specs.Parts.{Parts, IsFrame};
 ghost use Rattle.can_frame.specs.Text.{frame_text, IsTextFault};
@@ -70,12 +70,22 @@ impl Frame {
         ensures bound { length result.items ≤ 32 }
     {
         let mut text = ArrayVec::new();
-        write::letter(&mut text, b'S', b'E', self.is_extended());
-        write::identifier(&mut text, self.id());
-        write::letter(&mut text, b'D', b'R', self.is_remote());
-        write::data_length_code(&mut text, self.dlc(), self.bytes());
-        write::data(&mut text, self.bytes());
+        self.push_text(&mut text);
         text
+    }
+
+    /// Appends the bytes of the frame's text to others with room for 32 more: for callers that put
+    /// a line together.
+    #[inline(always)]
+    pub fn push_text<const ROOM: usize>(&self, text: &mut ArrayVec<u8, ROOM>)
+        requires { length text.old.items + 32 ≤ ROOM }
+        ensures written { text.new.items ≡ text.old.items ++ frame_text self.now }
+        ensures ascii { IsAscii (frame_text self.now) }
+        ensures bound { length text.new.items ≤ length text.old.items + 32 }
+    {
+        write::identifier(text, self);
+        write::direction_and_dlc(text, self);
+        write::data(text, self);
     }
 
     /// The frame whose text this is, as [`to_text`](Frame::to_text) writes it: no other spelling is

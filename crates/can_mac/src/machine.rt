@@ -13,10 +13,10 @@ use crate::driving::level_of_phase;
 use crate::event::Event;
 use crate::moves::MOST_OVERLOADS;
 use crate::moves::flags::LAST_OF_DELIMITER;
-use crate::moves::shortcuts::{goes_on, goes_on_recessive, receiver_hears_on};
+use crate::moves::shortcuts::{goes_on_quietly, goes_on_silently, hears_on_silently};
 use crate::phase::{Overloads, Phase, Role};
 use crate::poised::Poised;
-use crate::step::{is_passive, make_any, make_in_place};
+use crate::step::{is_passive, make_in_place, make_move};
 use can_code::{CheckedBits, FrameBits, Front, PlainBits, Sending};
 use can_fault::{Cause, Confine, State};
 use can_frame::{Frame, Level};
@@ -165,7 +165,7 @@ impl<B: FrameBits> MediumAccess<B> {
         ensures kept { IsMac self.new }
     {
         within_limits(waiting);
-        goes_on(&self.role, &mut self.phase, waiting, seen)
+        goes_on_quietly(&self.role, &mut self.phase, waiting, seen)
     }
 
     /// Takes a level that tells nothing, and behind which it drives recessive, both whatever waits: those that
@@ -181,7 +181,7 @@ impl<B: FrameBits> MediumAccess<B> {
         ensures kept { IsMac self.new }
     {
         if let Phase::StuffedPart(_) = self.phase {
-            return receiver_hears_on(&self.role, &mut self.phase, seen);
+            return hears_on_silently(&self.role, &mut self.phase, seen);
         }
         self.takes_silently_outside(seen)
     }
@@ -195,7 +195,7 @@ impl<B: FrameBits> MediumAccess<B> {
         ensures unchanged { IsFalse result → self.new ≡ self.old }
         ensures kept { IsMac self.new }
     {
-        self.stays_off(seen) || goes_on_recessive(&mut self.phase, seen)
+        self.stays_off(seen) || goes_on_silently(&mut self.phase, seen)
     }
 
     /// Takes a level off the bus, unless bus off may end soon, which [`MediumAccess::sample`] looks at. It answers whether
@@ -352,19 +352,7 @@ impl<B: FrameBits> MediumAccess<B> {
         if let Some(event) = made {
             return event;
         }
-        self.make_move(waiting, seen)
-    }
-
-    /// A level that makes a move.
-    #[inline(never)]
-    fn make_move(&mut self, waiting: Option<&Frame>, seen: Level) -> Option<Event>
-        requires on_bus { is_off_phase self.old.phase ≡ false }
-        requires waiting { IsFrameOrNone (option_copied waiting) }
-        ensures state { self.new ≡ (on_step self.old (move (stance_of self.old) self.old.phase (option_copied waiting.entry) seen)).0 }
-        ensures event { result ≡ (on_step self.old (move (stance_of self.old) self.old.phase (option_copied waiting.entry) seen)).1 }
-        ensures kept { IsMac self.new }
-    {
-        make_any(
+        make_move(
             &mut self.phase,
             &mut self.role,
             &mut self.overloads,

@@ -54,9 +54,9 @@ pub(crate) fn make_in_place<B: FrameBits>(
     Some(land(phase, role, confine, made))
 }
 
-/// A level that makes a move.
-#[inline(always)]
-pub(crate) fn make_any<B: FrameBits>(
+/// A level that makes a move: what is told. It stands apart, since few levels come to it.
+#[inline(never)]
+pub(crate) fn make_move<B: FrameBits>(
     phase: &mut Phase<Front<B>>,
     role: &mut Role,
     overloads: &mut Overloads,

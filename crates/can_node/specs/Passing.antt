@@ -17,5 +17,5 @@ abbrev pub IsAside : PortState → Type 0
 IsAside p = (is_bus_off p.mac.counters ≡ true) ⊎ IsOutOfStep p.mac
 
 -- a controller in a frame's stuffed part has heard the first o levels of f
-abbrev pub HasHeard : Parts → ℕ → MacPhase → Type 0
-HasHeard f o phase = (front : FrontParts) → phase ≡ StuffedPart front → phase ≡ phase_at f o
+abbrev pub HasHeardFirst : Parts → ℕ → MacPhase → Type 0
+HasHeardFirst f o phase = (front : FrontParts) → phase ≡ StuffedPart front → phase ≡ phase_at f o

@@ -5,7 +5,7 @@ ghost use Rattle.can_frame.specs.Parts.{IsFrame};
 ghost use Rattle.can_mac.specs.Frames.{IsPoisedAs, with_intermission};
 ghost use Rattle.can_wire.specs.Wire.{stuffed_part};
 ghost use Rattle.can_mac.specs.Machine.{IsSilent};
-ghost use Rattle.can_node.specs.Passing.{HasHeard, IsAside, LetsPass};
+ghost use Rattle.can_node.specs.Passing.{HasHeardFirst, IsAside, LetsPass};
 ghost use Rattle.can_node.specs.Ports.{PortState, IsAtRest, IsPort, port_offered, port_drives, port_event, port_holding, port_run, port_step, waiting};
 
 use crate::entry::Entry;
@@ -83,7 +83,7 @@ pub trait Port {
         requires some { 0 < length levels.now }
         requires within { length levels.now < length (stuffed_part frame.now) }
         requires passes { LetsPass frame.now (port self.old) }
-        requires leader { HasHeard frame.now (length levels.now) (port leader.now).mac.phase }
+        requires leader { HasHeardFirst frame.now (length levels.now) (port leader.now).mac.phase }
         ensures { port self.new ≡ port_run (port self.old) levels.now }
     {
         self.turn_through(levels);

@@ -12,7 +12,7 @@ use Rattle.can_plan.specs.declared.margin.Strain.TheVariants.{MoreHits, ShorterP
 use Rattle.can_plan.specs.declared.message.HitRate.{HitRate}
 use Rattle.can_plan.specs.declared.message.Message.{Message}
 use Rattle.can_plan.specs.Analysis.{IsBound, IsLeastBound, Ranking, arrivals, blocking, demand, greatest, hits_cost, load, ranking_at, widest}
-use Rattle.can_plan.specs.Margins.{IsFirstLate, IsFirstUnder, IsMargin, MeetDeadlines, MeetUnder, MeetsDeadline, MeetsUnder, is_above, messages_under, most_strain, rate_under, shorter}
+use Rattle.can_plan.specs.Margins.{IsFirstLate, IsFirstUnder, IsMargin, MeetDeadlines, MeetUnder, MeetsDeadline, MeetsUnder, messages_under, misses_deadline, most_strain, rate_under, shorter}
 use Rattle.can_plan.specs.Messages.{ArePeriodic, IsMessageSet, most_hits}
 use Rattle.can_plan.proofs.Carried.{greatest-cons}
 use Rattle.can_plan.proofs.Growth.{div-grows, periodic-cons}
@@ -221,7 +221,7 @@ module _ (rate : HitRate) (limit : ℕ) (r : Ranking) where
   Answers bound = MatchOption bound ((other : ℕ) → IsBound (most_hits rate) limit r other → ⊥) (λ b. IsLeastBound (most_hits rate) limit r b)
 
 module _ (rate : HitRate) (limit : ℕ) (r : Ranking) (deadline : ℕ) where
-  pub met-by : (bound : Option ℕ) → Answers rate limit r bound → is_above deadline bound ≡ false → IsBound (most_hits rate) limit r deadline
+  pub met-by : (bound : Option ℕ) → Answers rate limit r bound → misses_deadline deadline bound ≡ false → IsBound (most_hits rate) limit r deadline
   met-by None answers not = absurd (let h : true ≡ false = not in cc)
   met-by (Some bound) answers not =
       let b = answers.is in
@@ -234,7 +234,7 @@ module _ (rate : HitRate) (limit : ℕ) (r : Ranking) (deadline : ℕ) where
         each = λ q few. let one = b.each q few in let enough = one.2.enough in (one.0, one.1, record { delays = one.2.delays; enough = omega (arith, enough, early) });
       }
 
-  pub missed-by : (bound : Option ℕ) → Answers rate limit r bound → is_above deadline bound ≡ true → IsBound (most_hits rate) limit r deadline → ⊥
+  pub missed-by : (bound : Option ℕ) → Answers rate limit r bound → misses_deadline deadline bound ≡ true → IsBound (most_hits rate) limit r deadline → ⊥
   missed-by None answers above is = answers deadline is
   missed-by (Some bound) answers above is = let less = ltb-true deadline bound above in let least = answers.least deadline is in absurd (omega (arith, less, least))
 
@@ -244,7 +244,7 @@ at-place (m ∷ ms) zero within = (m, refl)
 at-place (m ∷ ms) (suc k) within = at-place ms k (omega (arith, within))
 
 -- a message without a bound may be late
-pub unbounded : (deadline : ℕ) (bound : Option ℕ) → is_some bound ≡ false → is_above deadline bound ≡ true
+pub unbounded : (deadline : ℕ) (bound : Option ℕ) → is_some bound ≡ false → misses_deadline deadline bound ≡ true
 unbounded deadline None none = refl
 unbounded deadline (Some b) none = cc
 
@@ -252,12 +252,12 @@ unbounded deadline (Some b) none = cc
 module _ (rate : HitRate) (limit : ℕ) (ms : List Message) (deadlines : List ℕ) (place : ℕ) (bound : Option ℕ)
     (told : (m : Message) → slice_get ms place ≡ Some m → ArePeriodic ms → Answers rate limit (ranking_at ms place m) bound)
     (deadline : ℕ) (due : slice_get deadlines place ≡ Some deadline) where
-  pub met-here : is_above deadline bound ≡ false → ArePeriodic ms → MeetsDeadline rate limit ms deadlines place
+  pub met-here : misses_deadline deadline bound ≡ false → ArePeriodic ms → MeetsDeadline rate limit ms deadlines place
   met-here not periodic m other here there =
       let same : deadline ≡ other = (let h : Some deadline ≡ Some other = sym due ∙ there in cc) in
-      met-by rate limit (ranking_at ms place m) other bound (told m here periodic) (subst (λ d. is_above d bound ≡ false) same not)
+      met-by rate limit (ranking_at ms place m) other bound (told m here periodic) (subst (λ d. misses_deadline d bound ≡ false) same not)
 
-  pub first-here : place < length ms → is_above deadline bound ≡ true → ArePeriodic ms → ((k : ℕ) → k < place → MeetsDeadline rate limit ms deadlines k) →
+  pub first-here : place < length ms → misses_deadline deadline bound ≡ true → ArePeriodic ms → ((k : ℕ) → k < place → MeetsDeadline rate limit ms deadlines k) →
       IsFirstLate rate limit ms deadlines place
   first-here within above periodic before =
       let m = at-place ms place within in

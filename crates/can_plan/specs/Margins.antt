@@ -13,9 +13,9 @@ use Rattle.can_plan.specs.Messages.{most_hits}
 -- ---- deadlines, each at the place of its message
 
 -- no bound was found, or one above the deadline
-abbrev pub is_above : ℕ → Option ℕ → Bool
-is_above deadline None = true
-is_above deadline (Some bound) = nat_lt deadline bound
+abbrev pub misses_deadline : ℕ → Option ℕ → Bool
+misses_deadline deadline None = true
+misses_deadline deadline (Some bound) = nat_lt deadline bound
 
 module _ (rate : HitRate) (limit : ℕ) (messages : List Message) (deadlines : List ℕ) where
   -- the analysis gives the deadline at this place as a bound

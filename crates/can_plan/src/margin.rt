@@ -1,7 +1,7 @@
 //! How much is left of a network until a message is late.
 ghost use Rattle.std.specs.Prelude.{◌≡◌, ◌-◌, ◌<◌, ◌≤◌, ℕ, IfOk, IsFalse, IsNone, MatchOption, length, map, nat_lt};
 ghost use Rattle.std.specs.List.{list_all};
-ghost use Rattle.can_plan.specs.Margins.{IsFirstLate, IsFirstUnder, IsMargin, MeetDeadlines, MeetUnder, MeetsDeadline, MeetsUnder, is_above as is_above_of, most_strain as most_strain_of, shorter as shorter_of};
+ghost use Rattle.can_plan.specs.Margins.{IsFirstLate, IsFirstUnder, IsMargin, MeetDeadlines, MeetUnder, MeetsDeadline, MeetsUnder, misses_deadline as misses_deadline_of, most_strain as most_strain_of, shorter as shorter_of};
 ghost use Rattle.can_plan.specs.Messages.{ArePeriodic};
 
 use crate::message::{HitRate, Message};
@@ -59,7 +59,7 @@ fn first_late_from(
     let mut busy = 0;
     for place in from..messages.len().min(deadlines.len()) {
         let response = response_after(busy, messages, place, rate, limit);
-        if is_above(u64::from(deadlines[place]), response.bound) {
+        if misses_deadline(u64::from(deadlines[place]), response.bound) {
             return Some(place);
         }
         busy = response.busy;
@@ -68,8 +68,8 @@ fn first_late_from(
 }
 
 /// Whether there is no bound, or one above the deadline.
-fn is_above(deadline: u64, bound: Option<u64>) -> bool
-    ensures { result ≡ is_above_of deadline bound }
+fn misses_deadline(deadline: u64, bound: Option<u64>) -> bool
+    ensures { result ≡ misses_deadline_of deadline bound }
 {
     match bound {
         Some(bound) => deadline < bound,

@@ -8,7 +8,7 @@ use Rattle.can_plan.specs.declared.message.HitRate.{HitRate}
 use Rattle.can_plan.specs.declared.message.Message.{Message}
 use Rattle.can_plan.specs.Analysis.{IsBound, IsLeastBound, blocking, ranking_at}
 use Rattle.can_plan.specs.Ends.{EndAlways}
-use Rattle.can_plan.specs.Margins.{is_above}
+use Rattle.can_plan.specs.Margins.{misses_deadline}
 use Rattle.can_plan.specs.Messages.{ArePeriodic, IsMessageSet, most_hits}
 use Rattle.can_plan_text.specs.declared.plan.Plan.{Plan}
 use Rattle.can_plan_text.specs.declared.plan.Planned.{Planned}
@@ -26,7 +26,7 @@ message-here ps k p messages all within is =
     ap (λ l. slice_get l k) all ∙ slice_get-map (λ (q : Planned). q.message) ps k ∙ ap (option_map (λ (q : Planned). q.message)) (slice_get-get_or ps k p within ∙ ap Some (sym is))
 
 pub kept-by : (most : ℕ → ℕ) (messages : List Message) (m : Message) (deadline : ℕ) (bound : Option ℕ) →
-    IfSome bound (λ b. EndAlways most messages m b) → is_above deadline bound ≡ false → EndAlways most messages m deadline
+    IfSome bound (λ b. EndAlways most messages m b) → misses_deadline deadline bound ≡ false → EndAlways most messages m deadline
 kept-by most messages m deadline None holds ok = absurd (cc)
 kept-by most messages m deadline (Some b) holds ok = λ releases hits course is frames in_time keep few place r here of.
     let ends = holds releases hits course is frames in_time keep few place r here of in

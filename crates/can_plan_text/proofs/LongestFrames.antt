@@ -8,15 +8,15 @@ use Rattle.can_frame.specs.Parts.{Parts}
 use Rattle.can_wire.specs.Wire.{wire}
 use Rattle.can_longest.specs.Longest.{IsFrameOf, IsLongestWire}
 use Rattle.can_plan_text.specs.declared.plan.Planned.{Planned}
-use Rattle.can_plan_text.specs.Worst.{IsLongestFrame, dlc_of}
+use Rattle.can_plan_text.specs.Worst.{IsLongestFrame, frame_dlc}
 
-pub longest-is : (p : Planned) (id : Ident) (remote : Bool) (dlc : ℕ) (f : Parts) → id ≡ p.head.id → remote ≡ p.head.remote → dlc ≡ dlc_of p → IsFrameOf id remote dlc f →
+pub longest-is : (p : Planned) (id : Ident) (remote : Bool) (dlc : ℕ) (f : Parts) → id ≡ p.head.id → remote ≡ p.head.remote → dlc ≡ frame_dlc p → IsFrameOf id remote dlc f →
     IsLongestWire id remote dlc (length (wire f)) → IsLongestFrame p f
 longest-is p id remote dlc f same_id same_kind same_dlc is long = record {
-  same = subst (λ (i : Ident). IsFrameOf i p.head.remote (dlc_of p) f) same_id (subst (λ (r : Bool). IsFrameOf id r (dlc_of p) f) same_kind (subst (λ (d : ℕ). IsFrameOf id remote d f) same_dlc is));
+  same = subst (λ (i : Ident). IsFrameOf i p.head.remote (frame_dlc p) f) same_id (subst (λ (r : Bool). IsFrameOf id r (frame_dlc p) f) same_kind (subst (λ (d : ℕ). IsFrameOf id remote d f) same_dlc is));
   longest =
-      subst (λ (i : Ident). IsLongestWire i p.head.remote (dlc_of p) (length (wire f))) same_id
-      (subst (λ (r : Bool). IsLongestWire id r (dlc_of p) (length (wire f))) same_kind (subst (λ (d : ℕ). IsLongestWire id remote d (length (wire f))) same_dlc long));
+      subst (λ (i : Ident). IsLongestWire i p.head.remote (frame_dlc p) (length (wire f))) same_id
+      (subst (λ (r : Bool). IsLongestWire id r (frame_dlc p) (length (wire f))) same_kind (subst (λ (d : ℕ). IsLongestWire id remote d (length (wire f))) same_dlc long));
 }
 
 -- an arbitration field by the parts that it has

@@ -3,7 +3,7 @@ use Rattle.std.proofs.Common.{◌≡◌, ◌<◌, ℕ, true, false, [], ◌∷�
 use Rattle.std.specs.List.{list_all}
 use Rattle.std.specs.Prelude.{codes}
 use Rattle.toml.specs.Data.{integer}
-use Rattle.can_plan.specs.Margins.{is_above}
+use Rattle.can_plan.specs.Margins.{misses_deadline}
 use Rattle.can_plan_text.specs.Names.{IsMessageName, is_name_byte}
 use Rattle.can_plan_text.specs.Plans.{IsPeriod, IsSpacing}
 use Rattle.can_plan_text.specs.Report.{end_text, outcome_text, quoted_text}
@@ -52,13 +52,13 @@ zero-spacing : IsSpacing 125000 (integer (pos 0))
 zero-spacing = (0, refl, omega arith, λ some. absurd (omega (arith, some)))
 
 -- a bound that is the deadline meets it
-in-time : is_above 132 (Some 132) ≡ false
+in-time : misses_deadline 132 (Some 132) ≡ false
 in-time = refl
 
-late : is_above 131 (Some 132) ≡ true
+late : misses_deadline 131 (Some 132) ≡ true
 late = refl
 
-unbound : is_above 4294967295 None ≡ true
+unbound : misses_deadline 4294967295 None ≡ true
 unbound = refl
 
 late-told : outcome_text 131 (Some 132) ≡ codes " late"

@@ -8,7 +8,7 @@ use Rattle.can_plan_text.specs.declared.plan.Plan.{Plan}
 use Rattle.can_plan_text.specs.Plans.{IsPlanText, SaysMessage, messages_in}
 use Rattle.can_plan_text.proofs.PlanParts.{paired-back}
 use Rattle.can_plan_text.specs.Keeping.{AreSized}
-use Rattle.can_plan_text.specs.Worst.{dlc_of}
+use Rattle.can_plan_text.specs.Worst.{frame_dlc}
 
 pub sized : (document : List ℕ) (plan : Plan) → IsPlanText document plan → AreSized plan.messages.items
 sized document plan is p there =
@@ -19,6 +19,6 @@ sized document plan is p there =
     let planned = message.2.2 in
     let frame = planned.longest.one_as_long.1 in
     let small : said.dlc < 16 = omega (arith, frame.is_frame.dlc, frame.same_dlc) in
-    let dlc : said.dlc ≡ dlc_of p = omega (arith, small, planned.dlc) in
-    subst (λ (h : Parts). IsLongestBusy h.id h.remote (dlc_of p) p.message.longest) (sym planned.head)
+    let dlc : said.dlc ≡ frame_dlc p = omega (arith, small, planned.dlc) in
+    subst (λ (h : Parts). IsLongestBusy h.id h.remote (frame_dlc p) p.message.longest) (sym planned.head)
     (subst (λ (d : ℕ). IsLongestBusy said.head.id said.head.remote d p.message.longest) dlc planned.longest)

@@ -6,7 +6,7 @@ use Rattle.can_plan.specs.declared.message.HitRate.{HitRate}
 use Rattle.can_plan.specs.Analysis.{IsBound, IsLeastBound, Ranking, blocking, ranking_at}
 use Rattle.can_plan.specs.Borne.{Allows}
 use Rattle.can_plan.specs.Ends.{EndAlways}
-use Rattle.can_plan.specs.Margins.{is_above}
+use Rattle.can_plan.specs.Margins.{misses_deadline}
 use Rattle.can_plan.specs.Messages.{IsMessageSet, most_hits}
 use Rattle.can_plan_text.specs.declared.verdict.Analysis.{Analysis}
 use Rattle.can_plan_text.specs.declared.verdict.Verdict.{Verdict}
@@ -26,7 +26,7 @@ most_of plan = most_hits (hit_rate_of plan.errors)
 
 -- no bound was found, or one above the deadline
 abbrev pub is_late : Verdict → Bool
-is_late v = is_above v.planned.deadline v.bound
+is_late v = misses_deadline v.planned.deadline v.bound
 
 -- how many are late
 abbrev pub late_in : List Verdict → ℕ

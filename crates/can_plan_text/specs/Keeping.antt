@@ -8,11 +8,11 @@ use Rattle.can_plan.specs.Messages.{IsIn, KeepTo, Release, offer_of}
 use Rattle.can_plan_text.specs.declared.plan.Planned.{Planned}
 use Rattle.can_plan_text.specs.declared.case.Sequence.{Sequence}
 use Rattle.can_plan_text.specs.declared.case.WorstCase.{WorstCase}
-use Rattle.can_plan_text.specs.Worst.{dlc_of}
+use Rattle.can_plan_text.specs.Worst.{frame_dlc}
 
 -- each message says of its frames how long they keep the bus at most, as it does where a document says it
 abbrev pub AreSized : List Planned → Type 0
-AreSized planned = (p : Planned) → IsIn planned p → IsLongestBusy p.head.id p.head.remote (dlc_of p) p.message.longest
+AreSized planned = (p : Planned) → IsIn planned p → IsLongestBusy p.head.id p.head.remote (frame_dlc p) p.message.longest
 
 abbrev pub offers_in : Sequence → List TimedParts
 offers_in s = map (λ (t : ℕ). let x : TimedParts = record { time = t; frame = s.frame } in x) s.times.items

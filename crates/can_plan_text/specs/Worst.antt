@@ -59,13 +59,13 @@ most_long = 999999
 -- ---- frames
 
 -- the DLC of its frames, which is 15 at most
-abbrev pub dlc_of : Planned → ℕ
-dlc_of p = min p.dlc 15
+abbrev pub frame_dlc : Planned → ℕ
+frame_dlc p = min p.dlc 15
 
 -- a frame of the message with data that make it the longest
 pub record IsLongestFrame (p : Planned) (f : Parts) : Type 0 where
-  pub same : IsFrameOf p.head.id p.head.remote (dlc_of p) f
-  pub longest : IsLongestWire p.head.id p.head.remote (dlc_of p) (length (wire f))
+  pub same : IsFrameOf p.head.id p.head.remote (frame_dlc p) f
+  pub longest : IsLongestWire p.head.id p.head.remote (frame_dlc p) (length (wire f))
 
 -- it is offered as often as it may be within so many bit times
 pub record IsOften (long : ℕ) (p : Planned) (s : Sequence) : Type 0 where

@@ -9,7 +9,7 @@ use Rattle.can_node.specs.Ports.{PortState}
 use Rattle.can_hit.specs.declared.hit.Hit.{Hit}
 use Rattle.can_bus.specs.declared.offer.Offer.{Offer}
 use Rattle.can_bus.specs.Offers.{played, played_level}
-use Rattle.can_bus.specs.Run.{BusState, bus_level, bus_run, new_bus}
+use Rattle.can_bus.specs.Run.{BusState, bus_level, bus_run}
 use Rattle.can_scenario.specs.Report.{ended_bus, ended_with, level_by, levels_until, made_bus, made_port, recorded_levels, waiting_bus, waiting_port}
 use Rattle.can_scenario.specs.ScenarioOffers.{scenario_offers}
 use Rattle.can_scenario_text.specs.declared.scenario.PortPlan.{PortPlan}
@@ -120,9 +120,3 @@ disturbed-ends s n start after some from size ran =
 -- there are as many as are planned
 pub same-size : {N : Type 0} (port : N → PortState) (from : PortPlan → PortState) (nodes : List N) (plans : List PortPlan) → map port nodes ≡ map from plans → length nodes ≡ length plans
 same-size port from nodes plans is = sym (length-map nodes port) ∙ ap length is ∙ length-map plans from
-
--- the bus of these ports
-pub bus-is : (ports others : List PortState) (rest : ℕ) → ports ≡ others → rest ≡ 11 → (let start : BusState = record { ports = ports; rest = rest } in start) ≡ new_bus others
-bus-is ports others rest same at =
-    ap (λ ps. let start : BusState = record { ports = ps; rest = rest } in start) same
-    ∙ ap (λ r. let start : BusState = record { ports = others; rest = r } in start) at

@@ -154,7 +154,7 @@ fn written_entry(entry: &Entry) -> Line
     let mut line = ArrayVec::new();
     push(&mut line, b"  ");
     push(&mut line, mark(entry.sent));
-    push(&mut line, entry.frame.text_bytes().as_slice());
+    entry.frame.push_text(&mut line);
     push(&mut line, b"\n");
     line
 }

@@ -31,8 +31,6 @@ pub mod SkippedBytes
 pub mod GatheredDigits
 -- what one level makes of a trace
 pub mod TraceSteps
--- the text of a frame
-pub mod FrameText
 -- the steps and the ends of a run
 pub mod DecodeSteps
 pub mod DecodeEndings

@@ -22,7 +22,6 @@
 //! | `traces/masks.rt` | bytes of a block by where they stand | `specs/Decoding.antt` |
 //! | `traces/short_runs.rt` | when digits are gathered | |
 //! | `traces/finding.rt` | what is told of a trace, and its line | `specs/Decoded.antt` |
-//! | `traces/text.rt` | the text of a frame in its line | can_frame's `specs/Text.antt` |
 //! | `laws.rt` | that lines of frames and of vectors have one answer, that in each trace one list is found, and each input has one answer | `specs/Coded.antt`, `specs/Checked.antt`, `specs/Decoded.antt` |
 //!
 //! Levels of a trace are heard where they stand, as far as their digits stand together. Digits that stand apart are gathered

@@ -7,7 +7,6 @@ mod masks;
 mod searching;
 mod short_runs;
 mod skipped;
-mod text;
 mod trace;
 
 pub use decode::decode_stream;

@@ -40,7 +40,7 @@ pub(super) const END: [Level; 13] = [
 ];
 
 /// How many bit times the frame takes at least, with the intermission behind it: those that have no stuff bits.
-pub(super) fn least_line(frame: &Frame) -> usize
+fn least_line(frame: &Frame) -> usize
     ensures { SHORTEST_LINE ≤ result }
 {
     let data = BYTE_LEVELS * frame.bytes().len();

@@ -8,23 +8,21 @@ ghost use Rattle.can_frame.specs.Arbitration.{arbitration_field};
 ghost use Rattle.can_frame.specs.Parts.{IsFrame, Parts};
 ghost use Rattle.can_wire.specs.Wire.{stuffed_part};
 ghost use Rattle.can_mac.specs.Frames.{with_intermission};
-ghost use Rattle.can_node.specs.Passing.{HasHeard};
-ghost use Rattle.can_node.specs.Ports.{port_drives, port_run};
+ghost use Rattle.can_node.specs.Passing.{HasHeardFirst};
+ghost use Rattle.can_node.specs.Ports.{port_run};
 ghost use Rattle.can_bus.specs.declared.offer.Offer.{Offer as Asked};
 ghost use Rattle.can_bus.specs.Offers.{call_after, call_level, call_refused, offered_now, AreOffered};
 ghost use Rattle.can_bus.specs.Passing.{HasRoom, IsReceived, MayPass, MayPassAll, PassesAt, PassesBus, PassesBy, PassesByAll, PassesFrom, Receives, due_before, made_behind, refused_behind, rest_run};
 ghost use Rattle.can_bus.specs.Run.{BusState, bus_after, recorded};
-ghost use Rattle.can_bus.specs.State.{port_count, port_states, rest_of, state_of};
+ghost use Rattle.can_bus.specs.State.{bus_state, port_count, port_states, rest_of};
 ghost use Rattle.can_bus.specs.Walks.{HitsRise, IsCall, IsReached, call_on};
-ghost use Rattle.can_bus.specs.Wired.{wired as wired_of};
 
 use crate::bus::Bus;
-use crate::bus::line::{END, LONGEST_LINE, SHORTEST_LINE, lay_out, least_line};
+use crate::bus::line::{END, LONGEST_LINE, SHORTEST_LINE, lay_out};
 use crate::bus::play_disturbed::Progress;
 use crate::call::Call;
 use crate::moment::rest_after;
 use crate::offer::Offer;
-use crate::wire::wired_level;
 use can_frame::{Frame, IDLE_ROW, Key, Level};
 use can_hit::Hit;
 use can_mac::Poised;
@@ -36,30 +34,26 @@ const SHORTEST_RIDE: usize = 16;
 
 impl<P: Port> Bus<P> {
     /// Runs the bit times of a whole frame, and of the intermission behind it, and records a level in each, where the
-    /// frame passes the bus at once. The answer is how many they are, and 0 where none does.
+    /// frame passes the bus at once, on which the wire is driven so; up to a hit in it, its first levels. The answer is how
+    /// many they are, and 0 where none does.
     #[inline(always)]
     pub(super) fn pass_frame(
         &mut self,
         hits: &[Hit],
         call: &mut Call,
-        driven: &mut Level,
+        driven: Level,
         rec: &mut [Level],
     ) -> usize
-        requires driven { driven.old ≡ wired_of (map port_drives (port_states P.port self.old)) }
         requires rising { HitsRise hits.now }
         requires call { IsCall hits.now call.old }
         requires time { call.old.time + length rec.old < 2 ^ 64 }
         ensures most { result ≤ length rec.old }
-        ensures levels { (t : ℕ) (d : Level) → t < result → slice_index_or rec.new t d ≡ recorded hits.now (bus_after hits.now t (call_on (state_of P.port self.old) call.old)) }
-        ensures after { call_on (state_of P.port self.new) call.new ≡ bus_after hits.now result (call_on (state_of P.port self.old) call.old) }
-        ensures driven { driven.new ≡ wired_of (map port_drives (port_states P.port self.new)) }
+        ensures levels { (t : ℕ) (d : Level) → t < result → slice_index_or rec.new t d ≡ recorded hits.now (bus_after hits.now t (call_on (bus_state P.port self.old) call.old)) }
+        ensures after { call_on (bus_state P.port self.new) call.new ≡ bus_after hits.now result (call_on (bus_state P.port self.old) call.old) }
         ensures call { IsCall hits.now call.new }
         ensures time { call.new.time ≡ call.old.time + result }
     {
         if driven.is_recessive() || self.rest != IDLE_ROW || rec.len() < SHORTEST_LINE {
-            return 0;
-        }
-        if free_ahead(call, hits, rec.len()) < SHORTEST_RIDE {
             return 0;
         }
         let Some(passing) = first_frame(self.ports.as_slice()) else {
@@ -70,11 +64,10 @@ impl<P: Port> Bus<P> {
             return 0;
         }
         let Some(later) = call.behind(hits, count) else {
-            return self.ride_frame(&passing, hits, call, driven, &rec[..count]);
+            return self.ride_frame(&passing, hits, call, &rec[..count]);
         };
         pass_all(self.ports.as_mut_slice(), &passing.frame, &rec[..count]);
         *call = later;
-        *driven = wired_level(self.ports.as_slice());
         count
     }
 
@@ -86,7 +79,6 @@ impl<P: Port> Bus<P> {
         passing: &Passing,
         hits: &[Hit],
         call: &mut Call,
-        driven: &mut Level,
         levels: &[Level],
     ) -> usize
         requires rested { rest_of self.old ≡ 11 }
@@ -95,14 +87,12 @@ impl<P: Port> Bus<P> {
         requires levels { levels.now ≡ with_intermission passing.now.frame }
         requires passes { PassesBus passing.now.frame (port_states P.port self.old) }
         requires received { IsReceived passing.now.frame (port_states P.port self.old) }
-        requires driven { driven.old ≡ wired_of (map port_drives (port_states P.port self.old)) }
         requires rising { HitsRise hits.now }
         requires call { IsCall hits.now call.old }
         requires time { call.old.time + length levels.now < 2 ^ 64 }
         ensures most { result ≤ length levels.now }
-        ensures levels { (t : ℕ) (d : Level) → t < result → slice_index_or levels.now t d ≡ recorded hits.now (bus_after hits.now t (call_on (state_of P.port self.old) call.old)) }
-        ensures after { call_on (state_of P.port self.new) call.new ≡ bus_after hits.now result (call_on (state_of P.port self.old) call.old) }
-        ensures driven { driven.new ≡ wired_of (map port_drives (port_states P.port self.new)) }
+        ensures levels { (t : ℕ) (d : Level) → t < result → slice_index_or levels.now t d ≡ recorded hits.now (bus_after hits.now t (call_on (bus_state P.port self.old) call.old)) }
+        ensures after { call_on (bus_state P.port self.new) call.new ≡ bus_after hits.now result (call_on (bus_state P.port self.old) call.old) }
         ensures call { IsCall hits.now call.new }
         ensures time { call.new.time ≡ call.old.time + result }
     {
@@ -121,7 +111,6 @@ impl<P: Port> Bus<P> {
         ride_all(self.ports.as_mut_slice(), passing, front);
         self.rest = rest_behind(self.rest, front);
         *call = later;
-        *driven = wired_level(self.ports.as_slice());
         count
     }
 
@@ -129,7 +118,7 @@ impl<P: Port> Bus<P> {
     /// are made behind the frame, which comes to the same. The wire is driven so, and the offers of the first bit time have
     /// been made. Where none comes within the longest frame, the answer is 0: the frame is left to `pass_frame`.
     #[inline(always)]
-    pub(super) fn pass_open(
+    pub(super) fn pass_open_frame(
         &mut self,
         offers: &[Offer],
         hits: &[Hit],
@@ -145,11 +134,11 @@ impl<P: Port> Bus<P> {
         requires reached { IsReached offers.now progress.old.place (call.old.time + 1) }
         requires refused { progress.old.refused ≤ progress.old.place }
         ensures most { result ≤ length rec.old }
-        ensures after { 0 < result → (bus : BusState) → call_on (state_of P.port self.old) call.old ≡ offered_now offers.now (call_after offers.now hits.now call.old.time bus)
-            → call_on (state_of P.port self.new) call.new ≡ call_after offers.now hits.now (call.old.time + result) bus }
-        ensures levels { (bus : BusState) → call_on (state_of P.port self.old) call.old ≡ offered_now offers.now (call_after offers.now hits.now call.old.time bus)
+        ensures after { 0 < result → (bus : BusState) → call_on (bus_state P.port self.old) call.old ≡ offered_now offers.now (call_after offers.now hits.now call.old.time bus)
+            → call_on (bus_state P.port self.new) call.new ≡ call_after offers.now hits.now (call.old.time + result) bus }
+        ensures levels { (bus : BusState) → call_on (bus_state P.port self.old) call.old ≡ offered_now offers.now (call_after offers.now hits.now call.old.time bus)
             → (t : ℕ) (d : Level) → t < result → slice_index_or rec.new t d ≡ call_level offers.now hits.now (call.old.time + t) bus }
-        ensures count { 0 < result → (bus : BusState) → call_on (state_of P.port self.old) call.old ≡ offered_now offers.now (call_after offers.now hits.now call.old.time bus)
+        ensures count { 0 < result → (bus : BusState) → call_on (bus_state P.port self.old) call.old ≡ offered_now offers.now (call_after offers.now hits.now call.old.time bus)
             → progress.old.refused ≡ call_refused offers.now hits.now (call.old.time + 1) bus
             → progress.new.refused ≡ call_refused offers.now hits.now (call.old.time + result) bus }
         ensures reached { 0 < result → IsReached offers.now progress.new.place (call.old.time + result) }
@@ -157,7 +146,7 @@ impl<P: Port> Bus<P> {
         ensures ports { port_count self.new ≡ port_count self.old }
         ensures call { IsCall hits.now call.new }
         ensures time { call.new.time ≡ call.old.time + result }
-        ensures unpassed { result ≡ 0 → call_on (state_of P.port self.new) call.new ≡ call_on (state_of P.port self.old) call.old }
+        ensures unpassed { result ≡ 0 → call_on (bus_state P.port self.new) call.new ≡ call_on (bus_state P.port self.old) call.old }
         ensures unmade { result ≡ 0 → progress.new ≡ progress.old }
     {
         if driven.is_recessive() || self.rest != IDLE_ROW || rec.len() < SHORTEST_LINE {
@@ -167,16 +156,9 @@ impl<P: Port> Bus<P> {
         if time_before(offers, progress.place, longest).is_none() {
             return 0;
         }
-        let free = free_ahead(call, hits, rec.len());
-        if free < SHORTEST_LINE {
-            return 0;
-        }
         let Some(passing) = first_frame(self.ports.as_slice()) else {
             return 0;
         };
-        if free < least_line(&passing.frame) {
-            return 0;
-        }
         let count = lay_out(&passing.frame, rec);
         if count == 0 {
             return 0;
@@ -215,26 +197,6 @@ impl<P: Port> Bus<P> {
             self.make_all(offers, time, progress);
             made = time;
         }
-    }
-}
-
-/// In how many bit times from this one on no hit falls, at most so many, where an attempt begins in the first of them, and
-/// no other later. It tells early that a frame would be laid out in vain. It is asked only where an attempt begins for
-/// certain: what it walks past on its copy of the call is behind the call once the attempt has begun.
-#[inline(never)]
-fn free_ahead(call: &Call, hits: &[Hit], most: usize) -> usize
-    requires rising { HitsRise hits.now }
-    requires call { IsCall hits.now call.now }
-    requires some { 1 < most }
-    requires time { call.now.time + most < 2 ^ 64 }
-    ensures most { result ≤ most }
-{
-    if hits.is_empty() {
-        return most;
-    }
-    match call.up_to_hit(hits, most) {
-        Some(later) => (later.time - call.time) as usize,
-        None => 0,
     }
 }
 
@@ -449,7 +411,7 @@ fn ride_others<P: Port>(ports: &mut [P], leader: &P, frame: &Frame, levels: &[Le
     requires some { 0 < length levels.now }
     requires within { length levels.now < length (stuffed_part frame.now) }
     requires passes { MayPassAll frame.now (map P.port ports.old) }
-    requires leader { HasHeard frame.now (length levels.now) (P.port leader.now).mac.phase }
+    requires leader { HasHeardFirst frame.now (length levels.now) (P.port leader.now).mac.phase }
     ensures { map P.port ports.new ≡ map (λ p. port_run p levels.now) (map P.port ports.old) }
 {
     for port in ports.iter_mut() {
@@ -464,7 +426,7 @@ fn ride_one<P: Port>(port: &mut P, leader: &P, frame: &Frame, levels: &[Level])
     requires some { 0 < length levels.now }
     requires within { length levels.now < length (stuffed_part frame.now) }
     requires passes { MayPass frame.now (P.port port.old) }
-    requires leader { HasHeard frame.now (length levels.now) (P.port leader.now).mac.phase }
+    requires leader { HasHeardFirst frame.now (length levels.now) (P.port leader.now).mac.phase }
     ensures { P.port port.new ≡ port_run (P.port port.old) levels.now }
 {
     match port.poised() {

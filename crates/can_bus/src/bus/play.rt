@@ -5,7 +5,7 @@ ghost use Rattle.can_bus.specs.OpenBus.{AreOver, OnOpenCall, OpenLogBegins, Open
 ghost use Rattle.can_bus.specs.Quiet.{AtEachPort, CountsNothing, MissesNothing, AtEachNode};
 ghost use Rattle.can_bus.specs.Run.{AreLevelsOf};
 ghost use Rattle.can_bus.specs.Schedule.{track_at};
-ghost use Rattle.can_bus.specs.State.{port_count, port_states, state_of};
+ghost use Rattle.can_bus.specs.State.{bus_state, port_count, port_states};
 
 use crate::bus::Bus;
 use crate::fault::BusFault;
@@ -33,9 +33,9 @@ impl<P: Port> Bus<P> {
     pub fn play(&mut self, offers: &[Offer], rec: &mut [Level]) -> Result<usize, BusFault>
         ensures taken { IsOk result ↔ AreOffered (port_count self.old) offers.now }
         ensures fault { IfErr result (λ fault. IsFirstOfferFault (port_count self.old) offers.now fault) }
-        ensures bus { OnOk result (state_of P.port self.new ≡ played offers.now (length rec.new) (state_of P.port self.old)) }
-        ensures levels { OnOk result (AreLevelsOf (λ t. played_level offers.now t (state_of P.port self.old)) rec.new) }
-        ensures count { IfOk result (λ count. count ≡ refused offers.now (length rec.new) (state_of P.port self.old)) }
+        ensures bus { OnOk result (bus_state P.port self.new ≡ played offers.now (length rec.new) (bus_state P.port self.old)) }
+        ensures levels { OnOk result (AreLevelsOf (λ t. played_level offers.now t (bus_state P.port self.old)) rec.new) }
+        ensures count { IfOk result (λ count. count ≡ refused offers.now (length rec.new) (bus_state P.port self.old)) }
         ensures answer { OnOpenCall offers.now (port_states P.port self.old) (λ starts. result ≡ Ok 0) }
         ensures track { OnOpenCall offers.now (port_states P.port self.old) (λ starts. AreLevelsOf (track_at starts) rec.new) }
         ensures open_logs { OnOpenCall offers.now (port_states P.port self.old) (λ starts.

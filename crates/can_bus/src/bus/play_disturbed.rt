@@ -11,7 +11,7 @@ ghost use Rattle.can_bus.specs.Network.{AllCountAtMost, AllOver, CountsAtMost, N
 ghost use Rattle.can_bus.specs.Offers.{call_after, call_level, call_refused, offered_now, AreOffered, IsFirstOfferFault, all_made, is_full, made, refused_at};
 ghost use Rattle.can_bus.specs.Quiet.{AtEachPort, MissesNothing, AtEachNode};
 ghost use Rattle.can_bus.specs.Run.{AreLevelsOf, BusState};
-ghost use Rattle.can_bus.specs.State.{port_count, port_states, rest_of, state_of};
+ghost use Rattle.can_bus.specs.State.{bus_state, port_count, port_states, rest_of};
 ghost use Rattle.can_bus.specs.Walks.{HitsRise, IsCall, IsReached, call_on};
 
 use crate::bus::Bus;
@@ -81,7 +81,7 @@ impl<P: Port> Bus<P> {
     /// Runs some bit times, in the first of which the offers are made, and records a level in each: those of a whole frame
     /// that passes the bus at once, with the offers meanwhile, or else some of those before the next offer. The answer is
     /// how many they are.
-    fn go_ahead(
+    fn advance(
         &mut self,
         offers: &[Offer],
         hits: &[Hit],
@@ -98,11 +98,11 @@ impl<P: Port> Bus<P> {
         requires refused { progress.old.refused ≤ progress.old.place }
         ensures some { 1 ≤ result }
         ensures most { result ≤ length rec.old }
-        ensures after { (bus : BusState) → call_on (state_of P.port self.old) call.old ≡ offered_now offers.now (call_after offers.now hits.now call.old.time bus)
-            → call_on (state_of P.port self.new) call.new ≡ call_after offers.now hits.now (call.old.time + result) bus }
-        ensures levels { (bus : BusState) → call_on (state_of P.port self.old) call.old ≡ offered_now offers.now (call_after offers.now hits.now call.old.time bus)
+        ensures after { (bus : BusState) → call_on (bus_state P.port self.old) call.old ≡ offered_now offers.now (call_after offers.now hits.now call.old.time bus)
+            → call_on (bus_state P.port self.new) call.new ≡ call_after offers.now hits.now (call.old.time + result) bus }
+        ensures levels { (bus : BusState) → call_on (bus_state P.port self.old) call.old ≡ offered_now offers.now (call_after offers.now hits.now call.old.time bus)
             → (t : ℕ) (d : Level) → t < result → slice_index_or rec.new t d ≡ call_level offers.now hits.now (call.old.time + t) bus }
-        ensures count { (bus : BusState) → call_on (state_of P.port self.old) call.old ≡ offered_now offers.now (call_after offers.now hits.now call.old.time bus)
+        ensures count { (bus : BusState) → call_on (bus_state P.port self.old) call.old ≡ offered_now offers.now (call_after offers.now hits.now call.old.time bus)
             → progress.old.refused ≡ call_refused offers.now hits.now (call.old.time + 1) bus
             → progress.new.refused ≡ call_refused offers.now hits.now (call.old.time + result) bus }
         ensures reached { IsReached offers.now progress.new.place (call.old.time + result) }
@@ -112,12 +112,12 @@ impl<P: Port> Bus<P> {
         ensures time { call.new.time ≡ call.old.time + result }
     {
         let driven = wired_level(self.ports.as_slice());
-        let passed = self.pass_open(offers, hits, call, driven, progress, rec);
+        let passed = self.pass_open_frame(offers, hits, call, driven, progress, rec);
         if passed > 0 {
             return passed;
         }
         let count = self.until_offer(offers, progress, call.time, rec.len());
-        self.go_through(hits, call, driven, &mut rec[..count])
+        self.advance_to_offer(hits, call, driven, &mut rec[..count])
     }
 
     /// Runs as many bit times as `rec` is long, with offers and with hits, and records a level in each. Offers are made
@@ -144,29 +144,29 @@ impl<P: Port> Bus<P> {
         ensures taken { IsOk result ↔ (AreOffered (port_count self.old) offers.now × AreTaken (port_count self.old) hits.now) }
         ensures fault { IfErr result (λ fault. IsFirstOfferFault (port_count self.old) offers.now fault
             ⊎ (AreOffered (port_count self.old) offers.now × IsFirstHitFault (port_count self.old) hits.now fault)) }
-        ensures bus { OnOk result (state_of P.port self.new ≡ (call_after offers.now hits.now (length rec.new) (state_of P.port self.old)).bus) }
-        ensures levels { OnOk result (AreLevelsOf (λ t. call_level offers.now hits.now t (state_of P.port self.old)) rec.new) }
-        ensures disturbed { IfOk result (λ count. rest_of self.old ≤ idle_row → WasPlayed offers.now hits.now (state_of P.port self.old) rec.new (state_of P.port self.new) count) }
-        ensures count { IfOk result (λ count. count ≡ call_refused offers.now hits.now (length rec.new) (state_of P.port self.old)) }
+        ensures bus { OnOk result (bus_state P.port self.new ≡ (call_after offers.now hits.now (length rec.new) (bus_state P.port self.old)).bus) }
+        ensures levels { OnOk result (AreLevelsOf (λ t. call_level offers.now hits.now t (bus_state P.port self.old)) rec.new) }
+        ensures disturbed { IfOk result (λ count. rest_of self.old ≤ idle_row → WasPlayed offers.now hits.now (bus_state P.port self.old) rec.new (bus_state P.port self.new) count) }
+        ensures count { IfOk result (λ count. count ≡ call_refused offers.now hits.now (length rec.new) (bus_state P.port self.old)) }
         ensures known { IsOk result → (n : ℕ) (offer : Asked) → slice_get offers.now n ≡ Some offer → IsFrame offer.frame }
-        ensures answer { OnNetworkCall offers.now hits.now (state_of P.port self.old) (λ course. result ≡ Ok 0) }
-        ensures course { OnNetworkCall offers.now hits.now (state_of P.port self.old) (λ course. AreLevelsOf (course_at course) rec.new) }
-        ensures network_logs { OnNetworkCall offers.now hits.now (state_of P.port self.old) (λ course.
+        ensures answer { OnNetworkCall offers.now hits.now (bus_state P.port self.old) (λ course. result ≡ Ok 0) }
+        ensures course { OnNetworkCall offers.now hits.now (bus_state P.port self.old) (λ course. AreLevelsOf (course_at course) rec.new) }
+        ensures network_logs { OnNetworkCall offers.now hits.now (bus_state P.port self.old) (λ course.
             AtEachNode (NetworkLogBegins offers.now course) (port_states P.port self.old) (port_states P.port self.new)) }
-        ensures network_has { OnNetworkCall offers.now hits.now (state_of P.port self.old) (λ course.
+        ensures network_has { OnNetworkCall offers.now hits.now (bus_state P.port self.old) (λ course.
             AtEachNode (NetworkLogHas offers.now course (length rec.new)) (port_states P.port self.old) (port_states P.port self.new)) }
-        ensures network_whole { OnNetworkCall offers.now hits.now (state_of P.port self.old) (λ course. AllEnded course (length rec.new) →
+        ensures network_whole { OnNetworkCall offers.now hits.now (bus_state P.port self.old) (λ course. AllEnded course (length rec.new) →
             AtEachNode (NetworkLogWhole offers.now course) (port_states P.port self.old) (port_states P.port self.new)) }
-        ensures network_tally { OnNetworkCall offers.now hits.now (state_of P.port self.old) (λ course. AllEnded course (length rec.new) →
+        ensures network_tally { OnNetworkCall offers.now hits.now (bus_state P.port self.old) (λ course. AllEnded course (length rec.new) →
             AtEachNode (NetworkTally offers.now course) (port_states P.port self.old) (port_states P.port self.new)) }
-        ensures network_active { OnNetworkCall offers.now hits.now (state_of P.port self.old) (λ course.
+        ensures network_active { OnNetworkCall offers.now hits.now (bus_state P.port self.old) (λ course.
             AtEachPort StaysActive (port_states P.port self.old) (port_states P.port self.new)) }
-        ensures network_counts { OnNetworkCall offers.now hits.now (state_of P.port self.old) (λ course. (errors : ℕ) → AllCountAtMost errors (port_states P.port self.old) →
+        ensures network_counts { OnNetworkCall offers.now hits.now (bus_state P.port self.old) (λ course. (errors : ℕ) → AllCountAtMost errors (port_states P.port self.old) →
             AtEachPort (λ p q. CountsAtMost (errors + hits_made course) q) (port_states P.port self.old) (port_states P.port self.new)) }
-        ensures network_missed { OnNetworkCall offers.now hits.now (state_of P.port self.old) (λ course.
+        ensures network_missed { OnNetworkCall offers.now hits.now (bus_state P.port self.old) (λ course.
             AtEachPort MissesNothing (port_states P.port self.old) (port_states P.port self.new)) }
-        ensures network_rests { OnNetworkCall offers.now hits.now (state_of P.port self.old) (λ course. AllOver course (length rec.new) →
-            RestsAgain (state_of P.port self.old) (state_of P.port self.new)) }
+        ensures network_rests { OnNetworkCall offers.now hits.now (bus_state P.port self.old) (λ course. AllOver course (length rec.new) →
+            RestsAgain (bus_state P.port self.old) (bus_state P.port self.new)) }
         ensures unchanged { OnErr result (self.new ≡ self.old) }
         ensures unrecorded { OnErr result (rec.new ≡ rec.old) }
     {
@@ -179,7 +179,7 @@ impl<P: Port> Bus<P> {
         let mut place = 0;
         while place < rec.len() {
             self.make_all(offers, call.time, &mut progress);
-            place += self.go_ahead(offers, hits, &mut call, &mut progress, &mut rec[place..]);
+            place += self.advance(offers, hits, &mut call, &mut progress, &mut rec[place..]);
         }
         Ok(progress.refused)
     }

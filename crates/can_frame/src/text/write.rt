@@ -1,89 +1,117 @@
-//! Writes the parts of a frame's text. Each function appends one part, with the blank that follows it.
-ghost use Rattle.std.specs.Prelude.{◌≡◌, ◌<◌, ◌≤◌, ◌+◌, ◌*◌, ◌++◌, length};
-ghost use Rattle.arrayvec.specs.ArrayVec.{array_vec_len};
+//! Writes the parts of a frame's text, two hexadecimal digits at a time. They stand within their caller, so that the length
+//! of what they are appended to stays in a register.
+ghost use Rattle.std.specs.Prelude.{◌≡◌, ◌+◌, ◌^◌, ◌<◌, ◌≤◌, ◌++◌, length};
+ghost use Rattle.std.specs.Int.{to_le_bytes, w16};
 ghost use Rattle.hex.specs.Hex.{encode_lower};
-ghost use Rattle.can_frame.specs.Text.{blank_before, decimal_digits, hex_digits, identifier_digits};
-ghost use Rattle.can_frame.specs.TextParts.{letter_spelling, identifier_spelling};
+ghost use Rattle.can_frame.specs.Parts.{IsFrame};
+ghost use Rattle.can_frame.specs.Text.{direction_part, dlc_part, hex_digits, identifier_part, letter_part};
 
-use crate::id::Id;
+use crate::frame::Frame;
 use arrayvec::ArrayVec;
 
-/// The digits by what they stand for.
-const DIGITS: [u8; 16] = *b"0123456789abcdef";
-
-/// One of two letters.
-pub(super) fn letter(text: &mut ArrayVec<u8, 32>, first: u8, second: u8, is_second: bool)
-    requires { array_vec_len text.old + 2 ≤ 32 }
-    ensures written { text.new.items ≡ text.old.items ++ letter_spelling first second is_second }
-    ensures len { array_vec_len text.new ≡ array_vec_len text.old + 2 }
+/// Appends the letter of a standard or an extended frame and the identifier, each with a blank.
+#[inline(always)]
+pub(super) fn identifier<const ROOM: usize>(text: &mut ArrayVec<u8, ROOM>, frame: &Frame)
+    requires { length text.old.items + 11 ≤ ROOM }
+    ensures written { text.new.items ≡ text.old.items ++ (letter_part frame.now ++ identifier_part frame.now) }
+    ensures bound { length text.new.items ≤ length text.old.items + 11 }
 {
-    text.push(if is_second { second } else { first });
-    text.push(b' ');
-}
-
-/// The identifier.
-pub(super) fn identifier(text: &mut ArrayVec<u8, 32>, id: Id)
-    requires { array_vec_len text.old + identifier_digits id.extended + 1 ≤ 32 }
-    ensures written { text.new.items ≡ text.old.items ++ identifier_spelling id.extended id.raw }
-    ensures len { array_vec_len text.new
-        ≡ array_vec_len text.old + identifier_digits id.extended + 1 }
-{
-    // each with a count of its own, so that its digits need no loop
-    if id.is_extended() {
-        number(text, id.raw(), 8);
+    let digits = digits(u64::from(frame.id().raw()));
+    if frame.is_extended() {
+        append(text, b"E ");
+        append(text, &digits);
+        append(text, b" ");
     } else {
-        number(text, id.raw(), 3);
+        append(text, &[b'S', b' ', digits[5], digits[6], digits[7], b' ']);
     }
-    text.push(b' ');
 }
 
-/// The DLC, and a blank only where there are data bytes.
-pub(super) fn data_length_code(text: &mut ArrayVec<u8, 32>, dlc: u8, bytes: &[u8])
-    requires range { dlc < 16 }
-    requires room { array_vec_len text.old + 3 ≤ 32 }
-    ensures written { text.new.items
-        ≡ text.old.items ++ (decimal_digits dlc ++ blank_before bytes.now) }
-    ensures len { array_vec_len text.new ≤ array_vec_len text.old + 3 }
+/// Appends the letter of a data or a remote frame and the DLC, with a blank behind it only where there
+/// are data bytes.
+#[inline(always)]
+pub(super) fn direction_and_dlc<const ROOM: usize>(text: &mut ArrayVec<u8, ROOM>, frame: &Frame)
+    requires { length text.old.items + 5 ≤ ROOM }
+    ensures written { text.new.items ≡ text.old.items ++ (direction_part frame.now ++ dlc_part frame.now) }
+    ensures bound { length text.new.items ≤ length text.old.items + 5 }
 {
+    let letter = if frame.is_remote() { b'R' } else { b'D' };
+    let dlc = frame.dlc();
     if dlc >= 10 {
-        text.push(b'1');
-        text.push(b'0' + (dlc - 10));
+        append(text, &[letter, b' ', b'1', b'0' + dlc % 10]);
     } else {
-        text.push(b'0' + dlc);
+        append(text, &[letter, b' ', b'0' + dlc]);
     }
-    if !bytes.is_empty() {
-        text.push(b' ');
-    }
-}
-
-/// Eight data bytes at most.
-pub(super) fn data(text: &mut ArrayVec<u8, 32>, bytes: &[u8])
-    requires few { length bytes.now ≤ 8 }
-    requires room { array_vec_len text.old + 2 * length bytes.now ≤ 32 }
-    ensures { text.new.items ≡ text.old.items ++ encode_lower bytes.now }
-{
-    for &byte in bytes {
-        number(text, u32::from(byte), 2);
+    if !frame.bytes().is_empty() {
+        append(text, b" ");
     }
 }
 
-/// So many of a number's lowest hexadecimal digits, eight at most.
-fn number(text: &mut ArrayVec<u8, 32>, number: u32, count: usize)
-    requires few { count ≤ 8 }
-    requires room { array_vec_len text.old + count ≤ 32 }
-    ensures written { text.new.items ≡ text.old.items ++ hex_digits count number }
-    ensures len { array_vec_len text.new ≡ array_vec_len text.old + count }
+/// Appends the data bytes of a frame: eight of them at once, and then those that it has are kept.
+#[inline(always)]
+pub(super) fn data<const ROOM: usize>(text: &mut ArrayVec<u8, ROOM>, frame: &Frame)
+    requires { length text.old.items + 16 ≤ ROOM }
+    ensures written { text.new.items ≡ text.old.items ++ encode_lower frame.now.bytes }
+    ensures bound { length text.new.items ≤ length text.old.items + 16 }
+    ensures whole { IsFrame frame.now }
 {
-    for place in (0..count).rev() {
-        digit(text, number >> (4 * place));
-    }
+    let end = text.len() + 2 * frame.bytes().len();
+    let number = u64::from_be_bytes(frame.octets());
+    append(text, &digits(number >> 32));
+    append(text, &digits(number));
+    text.truncate(end);
 }
 
-/// The lowest hexadecimal digit of a number, in lower case.
-fn digit(text: &mut ArrayVec<u8, 32>, number: u32)
-    requires room { array_vec_len text.old + 1 ≤ 32 }
-    ensures written { text.new.items ≡ text.old.items ++ hex_digits 1 number }
-    ensures len { array_vec_len text.new ≡ array_vec_len text.old + 1 }
+/// Appends bytes.
+fn append<const ROOM: usize>(text: &mut ArrayVec<u8, ROOM>, bytes: &[u8])
+    requires { length text.old.items + length bytes.now ≤ ROOM }
+    ensures { text.new.items ≡ text.old.items ++ bytes.now }
 {
-    text.push(DIGITS[(number % 16) as usize]);
+    let Ok(()) = text.try_extend_from_slice(bytes) else {
+        unreachable!();
+    };
 }
+
+/// The eight lowest hexadecimal digits of a number.
+#[inline]
+fn digits(number: u64) -> [u8; 8]
+    ensures { result ≡ hex_digits 8 number }
+{
+    let front = pair(number >> 24) + (pair(number >> 16) << 16);
+    let rest = pair(number >> 8) + (pair(number) << 16);
+    (front + (rest << 32)).to_le_bytes()
+}
+
+/// The two lowest hexadecimal digits of a number, the code of the first as its lowest byte.
+#[inline]
+fn pair(number: u64) -> u64
+    ensures small { result < 2 ^ 16 }
+    ensures digits { to_le_bytes w16 result ≡ hex_digits 2 number }
+{
+    u64::from(PAIRS[(number % 256) as usize])
+}
+
+/// The two hexadecimal digits of each byte, in lower case, the code of the second above that of the first.
+static PAIRS: [u16; 256] = [
+    0x3030, 0x3130, 0x3230, 0x3330, 0x3430, 0x3530, 0x3630, 0x3730, 0x3830, 0x3930, 0x6130, 0x6230,
+    0x6330, 0x6430, 0x6530, 0x6630, 0x3031, 0x3131, 0x3231, 0x3331, 0x3431, 0x3531, 0x3631, 0x3731,
+    0x3831, 0x3931, 0x6131, 0x6231, 0x6331, 0x6431, 0x6531, 0x6631, 0x3032, 0x3132, 0x3232, 0x3332,
+    0x3432, 0x3532, 0x3632, 0x3732, 0x3832, 0x3932, 0x6132, 0x6232, 0x6332, 0x6432, 0x6532, 0x6632,
+    0x3033, 0x3133, 0x3233, 0x3333, 0x3433, 0x3533, 0x3633, 0x3733, 0x3833, 0x3933, 0x6133, 0x6233,
+    0x6333, 0x6433, 0x6533, 0x6633, 0x3034, 0x3134, 0x3234, 0x3334, 0x3434, 0x3534, 0x3634, 0x3734,
+    0x3834, 0x3934, 0x6134, 0x6234, 0x6334, 0x6434, 0x6534, 0x6634, 0x3035, 0x3135, 0x3235, 0x3335,
+    0x3435, 0x3535, 0x3635, 0x3735, 0x3835, 0x3935, 0x6135, 0x6235, 0x6335, 0x6435, 0x6535, 0x6635,
+    0x3036, 0x3136, 0x3236, 0x3336, 0x3436, 0x3536, 0x3636, 0x3736, 0x3836, 0x3936, 0x6136, 0x6236,
+    0x6336, 0x6436, 0x6536, 0x6636, 0x3037, 0x3137, 0x3237, 0x3337, 0x3437, 0x3537, 0x3637, 0x3737,
+    0x3837, 0x3937, 0x6137, 0x6237, 0x6337, 0x6437, 0x6537, 0x6637, 0x3038, 0x3138, 0x3238, 0x3338,
+    0x3438, 0x3538, 0x3638, 0x3738, 0x3838, 0x3938, 0x6138, 0x6238, 0x6338, 0x6438, 0x6538, 0x6638,
+    0x3039, 0x3139, 0x3239, 0x3339, 0x3439, 0x3539, 0x3639, 0x3739, 0x3839, 0x3939, 0x6139, 0x6239,
+    0x6339, 0x6439, 0x6539, 0x6639, 0x3061, 0x3161, 0x3261, 0x3361, 0x3461, 0x3561, 0x3661, 0x3761,
+    0x3861, 0x3961, 0x6161, 0x6261, 0x6361, 0x6461, 0x6561, 0x6661, 0x3062, 0x3162, 0x3262, 0x3362,
+    0x3462, 0x3562, 0x3662, 0x3762, 0x3862, 0x3962, 0x6162, 0x6262, 0x6362, 0x6462, 0x6562, 0x6662,
+    0x3063, 0x3163, 0x3263, 0x3363, 0x3463, 0x3563, 0x3663, 0x3763, 0x3863, 0x3963, 0x6163, 0x6263,
+    0x6363, 0x6463, 0x6563, 0x6663, 0x3064, 0x3164, 0x3264, 0x3364, 0x3464, 0x3564, 0x3664, 0x3764,
+    0x3864, 0x3964, 0x6164, 0x6264, 0x6364, 0x6464, 0x6564, 0x6664, 0x3065, 0x3165, 0x3265, 0x3365,
+    0x3465, 0x3565, 0x3665, 0x3765, 0x3865, 0x3965, 0x6165, 0x6265, 0x6365, 0x6465, 0x6565, 0x6665,
+    0x3066, 0x3166, 0x3266, 0x3366, 0x3466, 0x3566, 0x3666, 0x3766, 0x3866, 0x3966, 0x6166, 0x6266,
+    0x6366, 0x6466, 0x6566, 0x6666,
+];

@@ -1,18 +1,14 @@
-//! The quick ways of most levels. Each takes the levels that are its own in place, and spares the memory of a
-//! [`Move`](crate::moves::Move); on any other it changes nothing, and the next way is asked. (Bosch CAN 2.0 part B,
-//! sections 3.2 and 5)
+//! The quick ways of most levels, in the order in which they are asked. Each takes the levels that are its own in place,
+//! and spares the memory of a [`Move`](crate::moves::Move); on any other it changes nothing, and the next way is asked.
+//! (Bosch CAN 2.0 part B, sections 3.2 and 5)
 //!
-//! | Way | Takes a level | Asked by |
-//! |---|---|---|
-//! | [`receiver_hears_on`] | with which nothing but the phase changes, and behind which the controller drives recessive whatever waits, in the stuffed part of a frame | a port's `turn`, by `MediumAccess::takes_silently` |
-//! | [`goes_on_recessive`] | such a one in the end of frame, in passive error flags, behind flags and in delimiters, in intermission and suspend transmission, and while joining | the same, behind `MediumAccess::stays_off`, which takes those off the bus |
-//! | [`goes_on`] | with which nothing but the phase changes: those above but off the bus, and such ones in the stuffed part of a frame that the controller sends, in CRC and ACK delimiters, in active error flags and overload flags, and while it is idle | a port's `sample` and, behind those above, its `turn`, by `MediumAccess::takes_quietly` |
-//! | [`move_in_place`] | that makes a move of a frame that goes well | `MediumAccess::sample` |
-//! | `next_move` of `moves.rt` | of any kind, by the cases of the definitions | the same |
+//! - silently ([`hears_on_silently`], [`goes_on_silently`]): nothing but the phase changes, and recessive is driven next,
+//!   whatever waits
+//! - quietly ([`goes_on_quietly`]): nothing but the phase changes
+//! - in place ([`move_in_place`]): a move of a frame that goes well
 //!
-//! `MediumAccess::passes` and `MediumAccess::follows` ask the first three of frames, idle and intermission alone.
-//!
-//! What each spares is told in docs/DECISIONS.md.
+//! `next_move` of `moves.rt` takes what is left. docs/ARCHITECTURE.md has who asks them, beside the ways of ports and
+//! buses; docs/DECISIONS.md tells what each spares.
 
 ghost use Rattle.std.specs.Prelude.{◌≡◌, ◌≢◌, IfSome, IsFalse, IsNone, IsTrue, Option, None, Some, false};
 ghost use Rattle.std.specs.Option.{option_copied};
@@ -42,7 +38,7 @@ use can_frame::{Frame, Level};
 /// Takes a level with which the controller just goes on, which most are: nothing but its phase changes, in
 /// place. It answers whether the level is one; else nothing changes.
 #[inline(always)]
-pub(crate) fn goes_on<B: FrameBits>(
+pub(crate) fn goes_on_quietly<B: FrameBits>(
     role: &Role,
     phase: &mut Phase<Front<B>>,
     waiting: Option<&Frame>,
@@ -55,7 +51,7 @@ pub(crate) fn goes_on<B: FrameBits>(
 {
     match phase {
         Phase::StuffedPart(_) => hears_on(role, phase, seen),
-        _ => goes_on_outside(role, phase, waiting, seen),
+        _ => goes_on_quietly_outside(role, phase, waiting, seen),
     }
 }
 
@@ -83,7 +79,7 @@ fn hears_on<B: FrameBits>(role: &Role, phase: &mut Phase<Front<B>>, seen: Level)
 
 /// The same at a receiver, which drives recessive behind such a level.
 #[inline(always)]
-pub(crate) fn receiver_hears_on<B: FrameBits>(
+pub(crate) fn hears_on_silently<B: FrameBits>(
     role: &Role,
     phase: &mut Phase<Front<B>>,
     seen: Level,
@@ -104,7 +100,7 @@ pub(crate) fn receiver_hears_on<B: FrameBits>(
 /// the stuffed part: in the end of frame, in a passive error flag, behind flags and in delimiters, in intermission and
 /// suspend transmission, and while joining. It answers whether the level is one; else nothing changes.
 #[inline(always)]
-pub(crate) fn goes_on_recessive<B: FrameBits>(phase: &mut Phase<Front<B>>, seen: Level) -> bool
+pub(crate) fn goes_on_silently<B: FrameBits>(phase: &mut Phase<Front<B>>, seen: Level) -> bool
     requires { IsPhase phase.old }
     ensures on { IsTrue result → (s : Standing) (waiting : Option Parts) → move s phase.old waiting seen ≡ goes s phase.new }
     ensures silent { IsTrue result → (role : Part) (waiting : Option Parts) → phase_drives phase.new role waiting ≡ Level.Recessive }
@@ -209,7 +205,7 @@ fn goes_on_counting<B: FrameBits>(phase: &mut Phase<Front<B>>, seen: Level) -> b
 
 /// The same, outside of the stuffed part of a frame. It stands apart, since most levels are of that part.
 #[inline(never)]
-fn goes_on_outside<B: FrameBits>(
+fn goes_on_quietly_outside<B: FrameBits>(
     role: &Role,
     phase: &mut Phase<Front<B>>,
     waiting: Option<&Frame>,
@@ -238,7 +234,7 @@ fn goes_on_outside<B: FrameBits>(
         | Phase::Intermission { .. }
         | Phase::Delimiter { .. }
         | Phase::Suspend { .. }
-        | Phase::Joining { .. } => goes_on_recessive(phase, seen),
+        | Phase::Joining { .. } => goes_on_silently(phase, seen),
         _ => false,
     }
 }

@@ -3,7 +3,6 @@ ghost use Rattle.std.specs.Prelude.{◌≡◌, ◌+◌, ◌≤◌, ◌++◌, fal
 ghost use Rattle.can_stream.specs.Outbox.{PassesOn, TakesFront};
 ghost use Rattle.can_texts.specs.Decoded.{acknowledgement, code_of, deviations, finding_line, word_if};
 
-use crate::traces::text::push_frame;
 use arrayvec::ArrayVec;
 use can_code::{CodeFaultKind, Heard};
 use can_stream::line::{LINE, Line, push, push_number};
@@ -59,7 +58,7 @@ fn push_frame_line(line: &mut Line, place: u64, heard: &Heard)
 {
     push_number(line, place);
     push(line, b" ");
-    push_frame(line, &heard.frame());
+    heard.frame().push_text(line);
     push_acknowledgement(line, heard.acked());
     push_deviations(line, heard);
     push(line, b"\n");

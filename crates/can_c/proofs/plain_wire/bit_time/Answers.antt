@@ -1,7 +1,7 @@
 use Rattle.std.proofs.Common.{◌≡◌, Some, ap, ◌∙◌}
 use Rattle.can_frame.specs.Levels.{level_code}
 use Rattle.can_bus.specs.Run.{inverted_if}
-use Rattle.can_bus.specs.WireSteps.{WireState, is_struck, seen_by, wire_behind, wire_level}
+use Rattle.can_bus.specs.WireSteps.{WireState, is_struck, wire_behind, wire_level, wire_seen}
 use Rattle.can_bus.specs.declared.bus_wire.Moment.{Moment}
 use Rattle.can_c.specs.PlainInputs.{hits_of_plain}
 use Rattle.can_c.specs.PlainWires.{wire_of_plain}
@@ -35,5 +35,5 @@ returns-clause-seen c = λ t within.
     let struck : c.falls.result ≡ is_struck hits w driven = struck-is c.args.hits.now w driven c.moment-moment.result c.falls.result is c.falls.ensures in
     let level : c.pass-level.result ≡ wire_level hits w driven = c.pass-level.ensures.level ∙ ap (λ hit. inverted_if hit driven) struck in
     c.tell_each.ensures t within
-    ∙ ap (λ (m : Moment). Some (level_code (seen_by hits m.time c.pass-level.result t))) is
-    ∙ ap (λ x. Some (level_code (seen_by hits w.time x t))) level
+    ∙ ap (λ (m : Moment). Some (level_code (wire_seen hits m.time c.pass-level.result t))) is
+    ∙ ap (λ x. Some (level_code (wire_seen hits w.time x t))) level

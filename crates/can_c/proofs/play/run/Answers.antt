@@ -3,9 +3,9 @@ use Rattle.std.proofs.lemmas.List.{take_at}
 use Rattle.can_hit.specs.Hits.{AreTaken}
 use Rattle.can_bus.specs.Network.{OnNetworkCall}
 use Rattle.can_bus.specs.Offers.{call_after, call_level, call_refused, AreOffered}
-use Rattle.can_bus.specs.Run.{AreLevelsOf}
+use Rattle.can_bus.specs.Run.{AreLevelsOf, new_bus}
 use Rattle.can_node.proofs.NodePort.{node_port}
-use Rattle.can_c.specs.Play.{IsNetworkRun, IsPlayFault, bus_held, bus_of, held_in, lacks_port, ports_held}
+use Rattle.can_c.specs.Play.{IsNetworkRun, IsPlayFault, bus_held, held_in, lacks_port, ports_held}
 use Rattle.can_c.proofs.HandleLists.{lacks-none, ports-held}
 use Rattle.can_c.proofs.PlayLemmas.{back-count, back-levels, back-ports, bus-held, fits-parts, network-same}
 use Rattle.can_c.proofs.play.run.Goals as goal
@@ -29,7 +29,7 @@ returns-in-Ok-clause-ports c =
     let ran = rw c.in-Ok.is at c.run_nodes-back.ensures.ports in
     back-ports c.args.handles.now c.exchange_all-2.new.handles (map node_port lent) (map node_port c.run_nodes-back.result.0.items) c.exchange_all.ensures.nodes back
     c.args.offers.now c.args.hits.now (length c.run_nodes-back.new.recorded)
-    (subst (λ xs. map node_port c.run_nodes-back.result.0.items ≡ (call_after c.args.offers.now c.args.hits.now (length c.run_nodes-back.new.recorded) (bus_of (map node_port xs))).bus.ports) (take_at lent _ _ whole) ran)
+    (subst (λ xs. map node_port c.run_nodes-back.result.0.items ≡ (call_after c.args.offers.now c.args.hits.now (length c.run_nodes-back.new.recorded) (new_bus (map node_port xs))).bus.ports) (take_at lent _ _ whole) ran)
 
 pub returns-in-Ok-clause-levels : goal.returns-in-Ok-clause-levels
 returns-in-Ok-clause-levels c =
@@ -39,7 +39,7 @@ returns-in-Ok-clause-levels c =
     let ran = rw c.in-Ok.is at c.run_nodes-back.ensures.levels in
     back-levels c.args.handles.now c.exchange_all-2.new.handles (map node_port lent) (map node_port c.run_nodes-back.result.0.items) c.exchange_all.ensures.nodes back
     c.args.offers.now c.args.hits.now c.run_nodes-back.new.recorded
-    (subst (λ xs. AreLevelsOf (λ t. call_level c.args.offers.now c.args.hits.now t (bus_of (map node_port xs))) c.run_nodes-back.new.recorded) (take_at lent _ _ whole) ran)
+    (subst (λ xs. AreLevelsOf (λ t. call_level c.args.offers.now c.args.hits.now t (new_bus (map node_port xs))) c.run_nodes-back.new.recorded) (take_at lent _ _ whole) ran)
 
 pub returns-in-Ok-clause-count : goal.returns-in-Ok-clause-count
 returns-in-Ok-clause-count c =
@@ -49,7 +49,7 @@ returns-in-Ok-clause-count c =
     let ran = rw c.in-Ok.is at c.run_nodes-back.ensures.count in
     back-count c.args.handles.now c.exchange_all-2.new.handles (map node_port lent) (map node_port c.run_nodes-back.result.0.items) c.exchange_all.ensures.nodes back
     c.args.offers.now c.args.hits.now (length c.run_nodes-back.new.recorded) c.in-Ok.count
-    (subst (λ xs. c.in-Ok.count ≡ call_refused c.args.offers.now c.args.hits.now (length c.run_nodes-back.new.recorded) (bus_of (map node_port xs))) (take_at lent _ _ whole) ran)
+    (subst (λ xs. c.in-Ok.count ≡ call_refused c.args.offers.now c.args.hits.now (length c.run_nodes-back.new.recorded) (new_bus (map node_port xs))) (take_at lent _ _ whole) ran)
 
 pub returns-in-Ok-clause-network : goal.returns-in-Ok-clause-network
 returns-in-Ok-clause-network c =
@@ -57,10 +57,10 @@ returns-in-Ok-clause-network c =
     let whole : length c.exchange_all.new.nodes ≡ c.in_ok-nodes.nodes.len = omega arith in
     let back : held_in c.exchange_all-2.new.handles ≡ map Some (map node_port c.run_nodes-back.result.0.items) =
     c.exchange_all-2.ensures.handles ∙ ap (λ xs. map Some (map node_port xs)) c.deref_mut-2.ensures.value in
-    network-same c.args.offers.now c.args.hits.now (bus_of (map node_port lent)) (bus_held (held_in c.args.handles.now)) c.run_nodes-back.new.recorded c.run_nodes-back.new.recorded
+    network-same c.args.offers.now c.args.hits.now (new_bus (map node_port lent)) (bus_held (held_in c.args.handles.now)) c.run_nodes-back.new.recorded c.run_nodes-back.new.recorded
     (map node_port c.run_nodes-back.result.0.items) (ports_held (held_in c.exchange_all-2.new.handles))
     (bus-held (held_in c.args.handles.now) (map node_port lent) c.exchange_all.ensures.nodes) refl (sym (ap ports_held back ∙ ports-held (map node_port c.run_nodes-back.result.0.items)))
-    (subst (λ xs. OnNetworkCall c.args.offers.now c.args.hits.now (bus_of (map node_port xs)) (λ course. IsNetworkRun c.args.offers.now course c.run_nodes-back.new.recorded (map node_port xs) (map node_port c.run_nodes-back.result.0.items))) (take_at lent _ _ whole) c.run_nodes-back.ensures.network)
+    (subst (λ xs. OnNetworkCall c.args.offers.now c.args.hits.now (new_bus (map node_port xs)) (λ course. IsNetworkRun c.args.offers.now course c.run_nodes-back.new.recorded (map node_port xs) (map node_port c.run_nodes-back.result.0.items))) (take_at lent _ _ whole) c.run_nodes-back.ensures.network)
 
 pub returns-in-Ok-clause-offered : goal.returns-in-Ok-clause-offered
 returns-in-Ok-clause-offered c =

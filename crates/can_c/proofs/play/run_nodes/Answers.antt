@@ -3,11 +3,11 @@ use Rattle.std.proofs.Common.{◌≡◌, ℕ, [], length, map, ap, refl, subst, 
 use Rattle.std.proofs.lemmas.Result.{on_err_weaker, on_ok_weaker}
 use Rattle.std.specs.Vec.{vec_items}
 use Rattle.can_bus.specs.Offers.{call_level, call_refused, AreOffered}
-use Rattle.can_bus.specs.Run.{AreLevelsOf, BusState}
-use Rattle.can_bus.specs.State.{port_count, port_states, state_of}
+use Rattle.can_bus.specs.Run.{AreLevelsOf, BusState, new_bus}
+use Rattle.can_bus.specs.State.{bus_state, port_count, port_states}
 use Rattle.can_hit.specs.Hits.{AreTaken}
 use Rattle.can_node.proofs.NodePort.{node_port}
-use Rattle.can_c.specs.Play.{IsPlayFault, bus_of}
+use Rattle.can_c.specs.Play.{IsPlayFault}
 use Rattle.can_c.proofs.PlayLemmas.{begun, both-ways, network-same, run-ports, run-size}
 use Rattle.can_c.proofs.play.run_nodes.Goals as goal
 
@@ -69,7 +69,7 @@ returns-clause-network c =
     let run = c.play_disturbed-answer in
     let is : c.in-Ok.bus.ports.items ≡ c.args.nodes.items = ap vec_items c.in-Ok.ensures.made.0 in
     rw c.into_ports.ensures
-    (network-same c.args.offers.now c.args.hits.now (state_of node_port bus) (bus_of (map node_port c.args.nodes.items)) run.new.rec run.new.rec
+    (network-same c.args.offers.now c.args.hits.now (bus_state node_port bus) (new_bus (map node_port c.args.nodes.items)) run.new.rec run.new.rec
     (map node_port run.new.self.ports.items) (map node_port run.new.self.ports.items)
     (begun node_port c.args.offers.now c.args.hits.now 0 c.args.nodes.items bus.ports.items [] bus.rest 0 is c.in-Ok.ensures.made.1) refl refl
     (λ course call. record {

@@ -1,25 +1,25 @@
 use Rattle.std.proofs.Common.{◌≡◌, ℕ, ◌<◌, false, true, get_or, length, ap, refl, sym, subst, ◌∙◌, inl, inr, arith}
 use Rattle.std.proofs.lemmas.Bool.{cases_lt}
 use Rattle.std.proofs.lemmas.Option.{slice_get-get_or, slice_get_within}
-use Rattle.can_plan.specs.Margins.{MeetsDeadline, is_above}
+use Rattle.can_plan.specs.Margins.{MeetsDeadline, misses_deadline}
 use Rattle.can_plan.proofs.Margins.{first-here, met-here, unbounded}
 use Rattle.can_plan.proofs.margin.first_late_from.Goals as goal
 
 pub loop-place-init : goal.loop-place-init
 loop-place-init c = (λ periodic k less. c.requires k less, (record { first = λ e. refl; next = λ k m n e at some h. omega arith }, λ none. refl))
 
-pub returns-then-is_above-clause-first : goal.returns-then-is_above-clause-first
-returns-then-is_above-clause-first c = λ periodic.
+pub returns-then-misses_deadline-clause-first : goal.returns-then-misses_deadline-clause-first
+returns-then-misses_deadline-clause-first c = λ periodic.
     let bound = c.response_after-response.result.bound in
     let deadline : ℕ = get_or c.args.deadlines.now c.loop-place.place 0 in
     let due : c.loop-place.place < length c.args.deadlines.now = omega (arith, c.loop-place-test.true, c.min-place-end.ensures) in
     let here : c.loop-place.place < length c.args.messages.now = omega (arith, c.loop-place-test.true, c.min-place-end.ensures) in
-    let above : is_above deadline bound ≡ true = ap (λ d. is_above d bound) (sym c.from.ensures) ∙ sym c.is_above.ensures ∙ c.if-is_above.true in
+    let above : misses_deadline deadline bound ≡ true = ap (λ d. misses_deadline d bound) (sym c.from.ensures) ∙ sym c.misses_deadline.ensures ∙ c.if-misses_deadline.true in
     first-here c.args.rate.now c.args.limit c.args.messages.now c.args.deadlines.now c.loop-place.place bound c.response_after-response.ensures.least deadline
     (slice_get-get_or c.args.deadlines.now c.loop-place.place 0 due) here above periodic (c.loop-place.invariant.0 periodic)
 
-pub returns-then-is_above-clause-aperiodic : goal.returns-then-is_above-clause-aperiodic
-returns-then-is_above-clause-aperiodic c = λ none some.
+pub returns-then-misses_deadline-clause-aperiodic : goal.returns-then-misses_deadline-clause-aperiodic
+returns-then-misses_deadline-clause-aperiodic c = λ none some.
     let at = c.loop-place.invariant.1.1 none in (at, omega (arith, at, c.loop-place-test.true, c.min-place-end.ensures))
 
 pub loop-place-preserved : goal.loop-place-preserved
@@ -31,7 +31,7 @@ loop-place-preserved c = (
         let bound = c.response_after-response.result.bound in
         let deadline : ℕ = get_or c.args.deadlines.now c.loop-place.place 0 in
         let due : c.loop-place.place < length c.args.deadlines.now = omega (arith, c.loop-place-test.true, c.min-place-end.ensures) in
-        let within : is_above deadline bound ≡ false = ap (λ d. is_above d bound) (sym c.from.ensures) ∙ sym c.is_above.ensures ∙ c.if-is_above.false in
+        let within : misses_deadline deadline bound ≡ false = ap (λ d. misses_deadline d bound) (sym c.from.ensures) ∙ sym c.misses_deadline.ensures ∙ c.if-misses_deadline.false in
         subst (λ n. MeetsDeadline c.args.rate.now c.args.limit c.args.messages.now c.args.deadlines.now n) same
         (met-here c.args.rate.now c.args.limit c.args.messages.now c.args.deadlines.now c.loop-place.place bound c.response_after-response.ensures.least deadline
         (slice_get-get_or c.args.deadlines.now c.loop-place.place 0 due) within periodic)
@@ -40,9 +40,9 @@ loop-place-preserved c = (
     c.response_after-response.ensures.busy,
     λ none.
         let deadline : ℕ = get_or c.args.deadlines.now c.loop-place.place 0 in
-        let over : is_above deadline c.response_after-response.result.bound ≡ true = unbounded deadline c.response_after-response.result.bound (c.response_after-response.ensures.aperiodic none) in
-        let within : is_above deadline c.response_after-response.result.bound ≡ false =
-        ap (λ d. is_above d c.response_after-response.result.bound) (sym c.from.ensures) ∙ sym c.is_above.ensures ∙ c.if-is_above.false in
+        let over : misses_deadline deadline c.response_after-response.result.bound ≡ true = unbounded deadline c.response_after-response.result.bound (c.response_after-response.ensures.aperiodic none) in
+        let within : misses_deadline deadline c.response_after-response.result.bound ≡ false =
+        ap (λ d. misses_deadline d c.response_after-response.result.bound) (sym c.from.ensures) ∙ sym c.misses_deadline.ensures ∙ c.if-misses_deadline.false in
         absurd (let h : true ≡ false = sym over ∙ within in cc),
   ),
 )

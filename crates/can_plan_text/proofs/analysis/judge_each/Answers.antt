@@ -1,7 +1,7 @@
 use Rattle.std.proofs.Common.{◌≡◌, ℕ, ◌<◌, false, List, length, get_or, Option, MatchOption, ap, subst, sym, arith, rules, ◌∙◌}
 use Rattle.can_plan.specs.declared.message.Message.{Message}
 use Rattle.can_plan.specs.Analysis.{IsBound, IsLeastBound, ranking_at}
-use Rattle.can_plan.specs.Margins.{is_above}
+use Rattle.can_plan.specs.Margins.{misses_deadline}
 use Rattle.can_plan.specs.Messages.{ArePeriodic, most_hits}
 use Rattle.can_plan_text.specs.declared.plan.Planned.{Planned}
 use Rattle.can_plan_text.specs.Answers.{limit}
@@ -28,8 +28,8 @@ loop-place-preserved c =
       said.block,
       same,
       λ set ok.
-          let late : is_above planned.deadline c.response_after-response.result.bound ≡ false =
-          ap (λ (q : Planned). is_above q.deadline c.response_after-response.result.bound) (sym said.planned) ∙ ap (is_above c.judge.result.planned.deadline) (sym said.bound) ∙ ok in
+          let late : misses_deadline planned.deadline c.response_after-response.result.bound ≡ false =
+          ap (λ (q : Planned). misses_deadline q.deadline c.response_after-response.result.bound) (sym said.planned) ∙ ap (misses_deadline c.judge.result.planned.deadline) (sym said.bound) ∙ ok in
           kept-by (most_hits c.hit_rate-rate.result) c.args.messages.now planned.message planned.deadline c.response_after-response.result.bound
           (c.response_after-response.ensures.holds planned.message here set) late,
     )

@@ -12,6 +12,5 @@ returns c =
     let text = frame_text entry.frame in
     let first : c.push.new.line.items ≡ codes "  " = pushed _ _ _ _ _ c.push.ensures refl c.new-line.ensures in
     let second : c.push-2.new.line.items ≡ codes "  " ++ word = pushed _ _ _ _ _ c.push-2.ensures c.mark.ensures.word first in
-    let bytes : c.as_slice.result.now ≡ text = c.as_slice.ensures.value ∙ c.text_bytes.ensures.text in
-    let third : c.push-3.new.line.items ≡ (codes "  " ++ word) ++ text = pushed _ _ _ _ _ c.push-3.ensures bytes second in
-    c.push-4.ensures ∙ ap (λ t. t ++ codes "\n") third ∙ append_assoc (codes "  " ++ word) text (codes "\n") ∙ append_assoc (codes "  ") word (text ++ codes "\n")
+    let third : c.push_text.new.text.items ≡ (codes "  " ++ word) ++ text = pushed _ _ _ _ _ c.push_text.ensures.written refl second in
+    c.push-3.ensures ∙ ap (λ t. t ++ codes "\n") third ∙ append_assoc (codes "  " ++ word) text (codes "\n") ∙ append_assoc (codes "  ") word (text ++ codes "\n")

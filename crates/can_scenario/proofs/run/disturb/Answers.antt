@@ -1,10 +1,11 @@
 use Rattle.std.proofs.Common.{◌≡◌, false, true, length, map, arith, ◌∙◌}
 use Rattle.std.proofs.lemmas.List.{take_at}
 use Rattle.can_hit.specs.Hits.{AreTaken}
-use Rattle.can_bus.specs.State.{state_of}
+use Rattle.can_bus.specs.State.{bus_state}
 use Rattle.can_scenario.specs.Report.{waiting_port}
 use Rattle.can_node.proofs.NodePort.{node_port}
-use Rattle.can_scenario.proofs.Started.{bus-is, disturbed-ends, disturbed-known, same-size}
+use Rattle.can_bus.proofs.RunLemmas.{new_bus-is}
+use Rattle.can_scenario.proofs.Started.{disturbed-ends, disturbed-known, same-size}
 use Rattle.can_scenario.proofs.run.disturb.Goals as goal
 
 pub offer_waiting-requires : goal.offer_waiting-requires
@@ -27,11 +28,11 @@ returns-clause-levels c =
     let whole : length c.offer_waiting.new.ports ≡ c.in_ok-ports.ports.len = omega arith in
     let items : bus.ports.items ≡ c.offer_waiting.new.ports = rw c.in-Ok.ensures.made.0 (take_at c.offer_waiting.new.ports _ _ whole) in
     let waits : map node_port bus.ports.items ≡ map waiting_port scenario.ports.items = rw (items, c.offer_waiting.ensures, c.deref-2.ensures.value) in
-    let start = bus-is (map node_port bus.ports.items) (map waiting_port scenario.ports.items) bus.rest waits c.in-Ok.ensures.made.1 in
+    let start = new_bus-is (map node_port bus.ports.items) (map waiting_port scenario.ports.items) bus.rest waits c.in-Ok.ensures.made.1 in
     let all : length c.run.new.rec ≡ c.in_ok-levels.levels.len = omega arith in
     let size : length c.run.new.rec ≡ scenario.bits = omega (arith, c.in_ok-levels.ensures) in
     take_at c.run.new.rec _ _ all
-    ∙ disturbed-known scenario c.run.new.rec (state_of node_port bus) c.requires start size (rw c.as_slice-hits.ensures.value at c.in-Ok-run.ensures.levels)
+    ∙ disturbed-known scenario c.run.new.rec (bus_state node_port bus) c.requires start size (rw c.as_slice-hits.ensures.value at c.in-Ok-run.ensures.levels)
 
 pub returns-clause-ports : goal.returns-clause-ports
 returns-clause-ports c =
@@ -40,8 +41,8 @@ returns-clause-ports c =
     let whole : length c.offer_waiting.new.ports ≡ c.in_ok-ports.ports.len = omega arith in
     let items : bus.ports.items ≡ c.offer_waiting.new.ports = rw c.in-Ok.ensures.made.0 (take_at c.offer_waiting.new.ports _ _ whole) in
     let waits : map node_port bus.ports.items ≡ map waiting_port scenario.ports.items = rw (items, c.offer_waiting.ensures, c.deref-2.ensures.value) in
-    let start = bus-is (map node_port bus.ports.items) (map waiting_port scenario.ports.items) bus.rest waits c.in-Ok.ensures.made.1 in
+    let start = new_bus-is (map node_port bus.ports.items) (map waiting_port scenario.ports.items) bus.rest waits c.in-Ok.ensures.made.1 in
     let all : length c.run.new.rec ≡ c.in_ok-levels.levels.len = omega arith in
     let size : length c.run.new.rec ≡ scenario.bits = omega (arith, c.in_ok-levels.ensures) in
     rw c.into_ports.ensures
-    (disturbed-ends scenario (length c.run.new.rec) (state_of node_port bus) (state_of node_port c.run.new.self) c.requires start size (rw c.as_slice-hits.ensures.value at c.in-Ok-run.ensures.bus))
+    (disturbed-ends scenario (length c.run.new.rec) (bus_state node_port bus) (bus_state node_port c.run.new.self) c.requires start size (rw c.as_slice-hits.ensures.value at c.in-Ok-run.ensures.bus))

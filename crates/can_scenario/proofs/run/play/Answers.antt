@@ -1,12 +1,13 @@
 use Rattle.std.proofs.Common.{◌≡◌, false, true, length, map, arith, ◌∙◌}
 use Rattle.std.proofs.lemmas.List.{take_at}
 use Rattle.can_bus.specs.Offers.{AreOffered}
-use Rattle.can_bus.specs.State.{state_of}
+use Rattle.can_bus.specs.State.{bus_state}
 use Rattle.can_scenario.specs.Report.{ended_bus, made_port, recorded_levels}
 use Rattle.can_scenario.specs.ScenarioOffers.{scenario_offers}
 use Rattle.can_scenario.proofs.OpenReports.{offered, scheduled-told}
 use Rattle.can_node.proofs.NodePort.{node_port}
-use Rattle.can_scenario.proofs.Started.{bus-is, made-size, played-ends, played-known}
+use Rattle.can_bus.proofs.RunLemmas.{new_bus-is}
+use Rattle.can_scenario.proofs.Started.{made-size, played-ends, played-known}
 use Rattle.can_scenario.proofs.run.play.Goals.{After-drop-offers-2}
 use Rattle.can_scenario.proofs.run.play.Goals as goal
 
@@ -31,14 +32,14 @@ levels-count c = let whole : length c.play.new.rec ≡ c.in_ok-levels.levels.len
 levels-known : (c : After-drop-offers-2) → c.play.new.rec ≡ recorded_levels c.args.scenario.now
 levels-known c =
     let bus = c.in-Ok.bus in
-    let start = bus-is (map node_port bus.ports.items) (map made_port c.args.scenario.now.ports.items) bus.rest (ports-made c) c.in-Ok.ensures.made.1 in
-    played-known c.args.scenario.now c.play.new.rec c.deref-3.result.now (state_of node_port bus) c.requires (offers-are c) start (levels-count c) c.in-Ok-play.ensures.levels
+    let start = new_bus-is (map node_port bus.ports.items) (map made_port c.args.scenario.now.ports.items) bus.rest (ports-made c) c.in-Ok.ensures.made.1 in
+    played-known c.args.scenario.now c.play.new.rec c.deref-3.result.now (bus_state node_port bus) c.requires (offers-are c) start (levels-count c) c.in-Ok-play.ensures.levels
 
 ports-ended : (c : After-drop-offers-2) → map node_port c.play.new.self.ports.items ≡ (ended_bus c.args.scenario.now).ports
 ports-ended c =
     let bus = c.in-Ok.bus in
-    let start = bus-is (map node_port bus.ports.items) (map made_port c.args.scenario.now.ports.items) bus.rest (ports-made c) c.in-Ok.ensures.made.1 in
-    played-ends c.args.scenario.now (length c.play.new.rec) c.deref-3.result.now (state_of node_port bus) (state_of node_port c.play.new.self) c.requires (offers-are c) start (levels-count c)
+    let start = new_bus-is (map node_port bus.ports.items) (map made_port c.args.scenario.now.ports.items) bus.rest (ports-made c) c.in-Ok.ensures.made.1 in
+    played-ends c.args.scenario.now (length c.play.new.rec) c.deref-3.result.now (bus_state node_port bus) (bus_state node_port c.play.new.self) c.requires (offers-are c) start (levels-count c)
     c.in-Ok-play.ensures.bus
 
 pub returns-clause-levels : goal.returns-clause-levels

@@ -1,7 +1,7 @@
 use Rattle.std.proofs.Common.{◌≡◌, ◌≤◌, ◌++◌, List, drop, length, map, take, arith, rules, ap, subst, ◌∙◌}
 use Rattle.can_node.specs.Ports.{PortState, port_run}
 use Rattle.can_bus.specs.Passing.{IsReceived, PassesBus}
-use Rattle.can_bus.specs.State.{state_of}
+use Rattle.can_bus.specs.State.{bus_state}
 use Rattle.can_bus.specs.Walks.{call_on}
 use Rattle.can_bus.proofs.BusAtRest.{after_none}
 use Rattle.can_bus.proofs.NetworkCalls.{valid-ports}
@@ -10,16 +10,13 @@ use Rattle.can_bus.proofs.PortLoops.{all_back}
 use Rattle.can_bus.proofs.bus.Bus.pass_frame.Goals as goal
 
 pub returns-then-is_recessive-clause-after : goal.returns-then-is_recessive-clause-after
-returns-then-is_recessive-clause-after g c = after_none c.args.hits.now (call_on (state_of g.P.Port.port c.args.self.now) c.args.call.now)
-
-pub returns-then-free_ahead-lt-SHORTEST_RIDE-clause-after : goal.returns-then-free_ahead-lt-SHORTEST_RIDE-clause-after
-returns-then-free_ahead-lt-SHORTEST_RIDE-clause-after g c = after_none c.args.hits.now (call_on (state_of g.P.Port.port c.args.self.now) c.args.call.now)
+returns-then-is_recessive-clause-after g c = after_none c.args.hits.now (call_on (bus_state g.P.Port.port c.args.self.now) c.args.call.now)
 
 pub returns-in_default-clause-after : goal.returns-in_default-clause-after
-returns-in_default-clause-after g c = after_none c.args.hits.now (call_on (state_of g.P.Port.port c.args.self.now) c.args.call.now)
+returns-in_default-clause-after g c = after_none c.args.hits.now (call_on (bus_state g.P.Port.port c.args.self.now) c.args.call.now)
 
 pub returns-then-count-eq0-clause-after : goal.returns-then-count-eq0-clause-after
-returns-then-count-eq0-clause-after g c = after_none c.args.hits.now (call_on (state_of g.P.Port.port c.args.self.now) c.args.call.now)
+returns-then-count-eq0-clause-after g c = after_none c.args.hits.now (call_on (bus_state g.P.Port.port c.args.self.now) c.args.call.now)
 
 pub returns : goal.returns
 returns g c =
@@ -44,7 +41,6 @@ returns g c =
       after = line-passed c.args.hits.now f c.in-Some.ensures.whole (map S items) c.args.self.now.rest call.time call.latest rested got valid passes
           c.lay_out-count.new.rec c.lay_out-count.result c.if-count-eq0.false within are c.in-Some-behind.ensures.free
           next c.in-Some-behind.later.time c.in-Some-behind.later.latest goes c.in-Some-behind.ensures.time c.in-Some-behind.ensures.latest;
-      driven = search rules;
       call = first_of (search rules, omega arith);
       time = first_of (search rules, omega arith);
     }

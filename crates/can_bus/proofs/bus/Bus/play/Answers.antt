@@ -2,7 +2,7 @@ use Rattle.std.specs.Prelude.{IsOk}
 use Rattle.std.proofs.Common.{◌≡◌, Some, length, map, rules, ap, ◌∙◌}
 use Rattle.can_bus.specs.Offers.{AreOffered, played, played_level, refused}
 use Rattle.can_bus.specs.Run.{AreLevelsOf}
-use Rattle.can_bus.specs.State.{port_count, state_of}
+use Rattle.can_bus.specs.State.{bus_state, port_count}
 use Rattle.can_bus.proofs.CallCases.{if-ok, no-hits, offers-taken, ok-is, ok-on}
 use Rattle.can_bus.proofs.OpenNetworks.{open-counters, open-logs, open-missed, open-refused, open-track, open-whole}
 use Rattle.can_bus.proofs.NetworkCalls.{valid-ports}
@@ -13,12 +13,12 @@ returns g c =
     let S = g.P.Port.port in
     let items = c.args.self.now.ports.items in
     let offers = c.args.offers.now in
-    let bus = state_of S c.args.self.now in
+    let bus = bus_state S c.args.self.now in
     let did = c.play_disturbed.ensures in
     let valid = valid-ports S (λ x. g.met.P.Port.valid x) items in
     let ok : AreOffered (length (map S items)) offers → IsOk c.play_disturbed.result = offers-taken S items offers c.play_disturbed.result did.taken in
-    let ran : IsOk c.play_disturbed.result → state_of S c.play_disturbed.new.self ≡ played offers (length c.play_disturbed.new.rec) bus =
-    λ is. ok-on c.play_disturbed.result (state_of S c.play_disturbed.new.self ≡ played offers (length c.play_disturbed.new.rec) bus) is did.bus in
+    let ran : IsOk c.play_disturbed.result → bus_state S c.play_disturbed.new.self ≡ played offers (length c.play_disturbed.new.rec) bus =
+    λ is. ok-on c.play_disturbed.result (bus_state S c.play_disturbed.new.self ≡ played offers (length c.play_disturbed.new.rec) bus) is did.bus in
     record {
       taken = (λ is. (did.taken.0 is).0, λ offered. did.taken.1 (offered, no-hits (port_count c.args.self.now)));
       fault = search rules;

@@ -11,7 +11,7 @@ use Rattle.can_hit.specs.Hits.{AreTaken}
 use Rattle.can_bus.specs.Inputs.{IsFirstHitFault}
 use Rattle.can_bus.specs.Offers.{IsFirstOfferFault, call_after, call_level, call_refused, offered_now, AreOffered, refused_at}
 use Rattle.can_bus.specs.Run.{AreLevelsOf, CallState}
-use Rattle.can_bus.specs.State.{state_of}
+use Rattle.can_bus.specs.State.{bus_state}
 use Rattle.can_bus.specs.Walks.{IsCall, IsReached, call_on}
 use Rattle.can_bus.proofs.DisturbedPlays.{call-played}
 use Rattle.can_bus.proofs.CallLemmas.{call-none, refused-none, refused-several}
@@ -56,9 +56,9 @@ returns-in_err-check_call-clause-network_active g c = untaken g.P.Port.port c.ar
 
 pub loop-place-init : goal.loop-place-init
 loop-place-init g c =
-    let bus = state_of g.P.Port.port c.args.self.now in
+    let bus = bus_state g.P.Port.port c.args.self.now in
     record {
-      state = ap (λ (k : Call). let now : CallState = record { bus = state_of g.P.Port.port c.args.self.now; time = k.time; latest = k.latest } in now) c.new-call.ensures
+      state = ap (λ (k : Call). let now : CallState = record { bus = bus_state g.P.Port.port c.args.self.now; time = k.time; latest = k.latest } in now) c.new-call.ensures
           ∙ sym (call-none c.args.offers.now c.args.hits.now bus);
       levels = λ t d h. absurd (omega arith);
       count = refused-none c.args.offers.now c.args.hits.now bus;
@@ -76,25 +76,25 @@ make_all-requires-clause-offered g c =
     let size : c.len.result ≡ length c.args.self.now.ports.items = search rules in
     subst (λ n. AreOffered n c.args.offers.now) (size ∙ sym c.loop-place.invariant.size) (c.in_ok-check_call.ensures.taken.0 (refl {a = true})).0
 
-pub go_ahead-place-requires-clause-offered : goal.go_ahead-place-requires-clause-offered
-go_ahead-place-requires-clause-offered g c =
+pub advance-place-requires-clause-offered : goal.advance-place-requires-clause-offered
+advance-place-requires-clause-offered g c =
     let size : c.len.result ≡ length c.args.self.now.ports.items = search rules in
     subst (λ n. AreOffered n c.args.offers.now) (size ∙ sym (c.make_all.ensures.size ∙ c.loop-place.invariant.size)) (c.in_ok-check_call.ensures.taken.0 (refl {a = true})).0
 
-pub go_ahead-place-requires-clause-rising : goal.go_ahead-place-requires-clause-rising
-go_ahead-place-requires-clause-rising g c = taken-rising c.len.result c.args.hits.now (c.in_ok-check_call.ensures.taken.0 (refl {a = true})).1
+pub advance-place-requires-clause-rising : goal.advance-place-requires-clause-rising
+advance-place-requires-clause-rising g c = taken-rising c.len.result c.args.hits.now (c.in_ok-check_call.ensures.taken.0 (refl {a = true})).1
 
 pub loop-place-preserved : goal.loop-place-preserved
 loop-place-preserved g c =
     let S = g.P.Port.port in
     let offers = c.args.offers.now in
     let hits = c.args.hits.now in
-    let bus = state_of g.P.Port.port c.args.self.now in
-    let start = call_on (state_of g.P.Port.port c.make_all.new.self) c.loop-place.call in
+    let bus = bus_state g.P.Port.port c.args.self.now in
+    let start = call_on (bus_state g.P.Port.port c.make_all.new.self) c.loop-place.call in
     let time : c.loop-place.call.time ≡ c.loop-place.place = c.loop-place.invariant.time in
     let size : length c.loop-place.rec ≡ length c.args.rec.now = c.loop-place.invariant.long in
     let left : length (drop c.loop-place.place c.loop-place.rec) + c.loop-place.place ≡ length c.loop-place.rec = omega (arith, length-drop c.loop-place.place c.loop-place.rec) in
-    let state-is : call_on (state_of g.P.Port.port c.loop-place.self) c.loop-place.call ≡ call_after offers hits c.loop-place.place bus = c.loop-place.invariant.state in
+    let state-is : call_on (bus_state g.P.Port.port c.loop-place.self) c.loop-place.call ≡ call_after offers hits c.loop-place.place bus = c.loop-place.invariant.state in
     let made : start ≡ offered_now offers (call_after offers hits c.loop-place.place bus) =
     same_call {time = c.loop-place.call.time} {a = c.loop-place.call.latest} c.make_all.ensures.ports c.make_all.ensures.rest refl refl ∙ ap (offered_now offers) state-is in
     let begun : start ≡ offered_now offers (call_after offers hits c.loop-place.call.time bus) = made ∙ ap (λ t. offered_now offers (call_after offers hits t bus)) (sym time) in
@@ -105,25 +105,25 @@ loop-place-preserved g c =
     ∙ ap (λ (k : CallState). call_refused offers hits c.loop-place.place bus + refused_at offers c.loop-place.place k.bus.ports) state-is
     ∙ sym one ∙ ap (λ t. call_refused offers hits (t + 1) bus) (sym time) in
     record {
-      state = c.go_ahead-place.ensures.after bus begun ∙ ap (λ t. call_after offers hits (t + c.go_ahead-place.result) bus) time;
+      state = c.advance-place.ensures.after bus begun ∙ ap (λ t. call_after offers hits (t + c.advance-place.result) bus) time;
       levels = λ t d h. elim (cases_lt t c.loop-place.place) [
         | inl early ↦
-            let before : get_or c.loop-place.rec t d ≡ call_level c.args.offers.now c.args.hits.now t (state_of g.P.Port.port c.args.self.now) = c.loop-place.invariant.levels t d early in
+            let before : get_or c.loop-place.rec t d ≡ call_level c.args.offers.now c.args.hits.now t (bus_state g.P.Port.port c.args.self.now) = c.loop-place.invariant.levels t d early in
             first_of (grind (arith, elements), search rules)
         | inr late ↦
             let behind : c.loop-place.call.time + (t - c.loop-place.place) ≡ t = omega (arith, time, late) in
-            let now : get_or c.go_ahead-place.new.rec (t - c.loop-place.place) d ≡ call_level c.args.offers.now c.args.hits.now t (state_of g.P.Port.port c.args.self.now) =
-            c.go_ahead-place.ensures.levels bus begun (t - c.loop-place.place) d (omega (arith, late, h)) ∙ ap (λ k. call_level offers hits k bus) behind in
+            let now : get_or c.advance-place.new.rec (t - c.loop-place.place) d ≡ call_level c.args.offers.now c.args.hits.now t (bus_state g.P.Port.port c.args.self.now) =
+            c.advance-place.ensures.levels bus begun (t - c.loop-place.place) d (omega (arith, late, h)) ∙ ap (λ k. call_level offers hits k bus) behind in
             first_of (grind (arith, elements), search rules)
       ];
-      count = c.go_ahead-place.ensures.count bus begun first ∙ ap (λ t. call_refused offers hits (t + c.go_ahead-place.result) bus) time;
-      reached = subst (λ t. IsReached offers c.go_ahead-place.new.progress.place (t + c.go_ahead-place.result)) time c.go_ahead-place.ensures.reached;
-      refused = c.go_ahead-place.ensures.refused;
-      size = c.go_ahead-place.ensures.ports ∙ c.make_all.ensures.size ∙ c.loop-place.invariant.size;
-      call = c.go_ahead-place.ensures.call;
-      time = omega (arith, c.go_ahead-place.ensures.time, time);
+      count = c.advance-place.ensures.count bus begun first ∙ ap (λ t. call_refused offers hits (t + c.advance-place.result) bus) time;
+      reached = subst (λ t. IsReached offers c.advance-place.new.progress.place (t + c.advance-place.result)) time c.advance-place.ensures.reached;
+      refused = c.advance-place.ensures.refused;
+      size = c.advance-place.ensures.ports ∙ c.make_all.ensures.size ∙ c.loop-place.invariant.size;
+      call = c.advance-place.ensures.call;
+      time = omega (arith, c.advance-place.ensures.time, time);
       long = first_of (omega arith, grind (arith, elements), search rules);
-      within = first_of (omega (arith, c.go_ahead-place.ensures.most, left, size), search rules);
+      within = first_of (omega (arith, c.advance-place.ensures.most, left, size), search rules);
     }
 
 pub returns : goal.returns
@@ -132,12 +132,12 @@ returns g c =
     let items = c.args.self.now.ports.items in
     let offers = c.args.offers.now in
     let hits = c.args.hits.now in
-    let bus = state_of S c.args.self.now in
+    let bus = bus_state S c.args.self.now in
     let size : c.len.result ≡ length c.args.self.now.ports.items = search rules in
     let valid = valid-ports S (λ x. g.met.P.Port.valid x) items in
     let known = c.in_ok-check_call.ensures.known (refl {a = true}) in
     let end : c.loop-place.place ≡ length c.loop-place.rec = omega arith in
-    let ran : state_of S c.loop-place.self ≡ (call_after offers hits (length c.loop-place.rec) bus).bus =
+    let ran : bus_state S c.loop-place.self ≡ (call_after offers hits (length c.loop-place.rec) bus).bus =
     ap (λ (k : CallState). k.bus) c.loop-place.invariant.state ∙ ap (λ n. (call_after offers hits n bus).bus) end in
     let recorded : AreLevelsOf (λ t. call_level offers hits t bus) c.loop-place.rec =
     λ t h. slice_get-get_or c.loop-place.rec t Recessive h ∙ ap Some (c.loop-place.invariant.levels t Recessive (omega (arith, h, end))) in

@@ -2,7 +2,7 @@ use Rattle.std.proofs.Common.{◌≡◌, ◌≢◌, ◌-◌, ◌≤◌, ◌++◌
 use Rattle.can_mac.specs.Frames.{with_intermission}
 use Rattle.can_node.specs.Ports.{PortState, port_run}
 use Rattle.can_bus.specs.Passing.{rest_run}
-use Rattle.can_bus.specs.State.{state_of}
+use Rattle.can_bus.specs.State.{bus_state}
 use Rattle.can_bus.specs.Walks.{call_on}
 use Rattle.can_bus.proofs.BusAtRest.{after_none}
 use Rattle.can_bus.proofs.NetworkCalls.{valid-ports}
@@ -11,13 +11,13 @@ use Rattle.can_bus.proofs.PortLoops.{all_back}
 use Rattle.can_bus.proofs.bus.Bus.ride_frame.Goals as goal
 
 pub returns-then-most-lt-SHORTEST_RIDE-clause-after : goal.returns-then-most-lt-SHORTEST_RIDE-clause-after
-returns-then-most-lt-SHORTEST_RIDE-clause-after g c = after_none c.args.hits.now (call_on (state_of g.P.Port.port c.args.self.now) c.args.call.now)
+returns-then-most-lt-SHORTEST_RIDE-clause-after g c = after_none c.args.hits.now (call_on (bus_state g.P.Port.port c.args.self.now) c.args.call.now)
 
 pub returns-in_default-clause-after : goal.returns-in_default-clause-after
-returns-in_default-clause-after g c = after_none c.args.hits.now (call_on (state_of g.P.Port.port c.args.self.now) c.args.call.now)
+returns-in_default-clause-after g c = after_none c.args.hits.now (call_on (bus_state g.P.Port.port c.args.self.now) c.args.call.now)
 
 pub returns-then-count-lt-SHORTEST_RIDE-clause-after : goal.returns-then-count-lt-SHORTEST_RIDE-clause-after
-returns-then-count-lt-SHORTEST_RIDE-clause-after g c = after_none c.args.hits.now (call_on (state_of g.P.Port.port c.args.self.now) c.args.call.now)
+returns-then-count-lt-SHORTEST_RIDE-clause-after g c = after_none c.args.hits.now (call_on (bus_state g.P.Port.port c.args.self.now) c.args.call.now)
 
 pub returns : goal.returns
 returns g c =
@@ -45,7 +45,6 @@ returns g c =
       after = ridden-passed c.args.hits.now f c.requires.whole (map S items) c.args.self.now.rest call.time call.latest c.requires.rested c.requires.received valid c.requires.passes
           rec (later.time - call.time) some within short are c.in-Some.ensures.free
           next c.rest_behind-self.result later.time later.latest goes (c.rest_behind-self.ensures ∙ ap (λ r. rest_run r front) c.requires.rested) (omega (arith, c.in-Some.ensures.some)) c.in-Some.ensures.latest;
-      driven = search rules;
       call = first_of (search rules, omega arith);
       time = first_of (search rules, omega (arith, c.in-Some.ensures.some));
     }

@@ -1,21 +1,12 @@
-use Rattle.std.proofs.Common.{◌++◌, ap, sym, ◌∙◌, arith}
-use Rattle.std.proofs.lemmas.List.{append-nil}
+use Rattle.std.proofs.Common.{◌+◌, ◌*◌, ◌/◌, ◌^◌, ◌++◌, length, take, ap, ◌∙◌}
 use Rattle.can_frame.specs.Text.{hex_digits}
-use Rattle.can_frame.proofs.HexDigits.{encode_lower-nil}
-use Rattle.can_frame.proofs.Written.{byte_written}
+use Rattle.can_frame.proofs.Written.{data_written}
 use Rattle.can_frame.proofs.text.write.data.Goals as goal
 
-pub loop-byte-init : goal.loop-byte-init
-loop-byte-init c =
-    let text = c.args.text.now.items in
-    record { written = sym (append-nil text) ∙ ap (λ t. text ++ t) (sym encode_lower-nil); len = omega arith }
-
-pub loop-byte-preserved : goal.loop-byte-preserved
-loop-byte-preserved c =
-    let text = c.loop-byte.text.items in
-    let index = c.loop-byte.byte-index in record {
-      written = byte_written c.args.text.now.items text c.number.new.text.items c.args.bytes.now index
-          c.loop-byte-test.true (omega (arith, c.type_inv.bytes index)) c.loop-byte.invariant.written
-          (c.number.ensures.written ∙ ap (λ b. text ++ hex_digits 2 b) c.from.ensures);
-      len = omega (arith, c.number.ensures.len, c.loop-byte.invariant.len);
-    }
+pub returns-clause-written : goal.returns-clause-written
+returns-clause-written g c =
+    let old = c.args.text.now.items in
+    let written = c.append-2.ensures ∙ ap (λ t. t ++ c.digits-2.result) (c.append.ensures ∙ ap (λ t. old ++ t) c.digits.ensures) ∙ ap (λ t. (old ++ hex_digits 8 (c.from_be_bytes-number.result / 2 ^ 32)) ++ t) c.digits-2.ensures in
+    let end = ap (λ n. n + 2 * length c.bytes.result.now) c.len.ensures.value ∙ ap (λ t. length old + 2 * length t) c.bytes.ensures.value in
+    c.truncate.ensures.items ∙ ap (take _) written
+    ∙ data_written c.args.frame.now c.bytes.ensures.whole old c.octets.result c.from_be_bytes-number.result _ c.octets.ensures c.from_be_bytes-number.ensures end

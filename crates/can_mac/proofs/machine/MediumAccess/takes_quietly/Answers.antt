@@ -8,11 +8,11 @@ invariant_of-self g c =
     let i = c.self.inside in
     let fields : MacState = record { phase = i.phase; role = i.role; overloads = i.overloads; counters = i.confine } in
     passes-IsMac fields c.self.invariant (option_copied c.args.waiting) c.within_limits.ensures c.args.seen
-    c.goes_on.result c.goes_on.new.phase c.goes_on.ensures.on c.goes_on.ensures.on_bus c.goes_on.ensures.unchanged
+    c.goes_on_quietly.result c.goes_on_quietly.new.phase c.goes_on_quietly.ensures.on c.goes_on_quietly.ensures.on_bus c.goes_on_quietly.ensures.unchanged
 
 pub returns-clause-kept : goal.returns-clause-kept
 returns-clause-kept g c =
     let i = c.self.inside in
     let fields : MacState = record { phase = i.phase; role = i.role; overloads = i.overloads; counters = i.confine } in
     passes-IsMac fields c.self.invariant (option_copied c.args.waiting) c.within_limits.ensures c.args.seen
-    c.goes_on.result c.goes_on.new.phase c.goes_on.ensures.on c.goes_on.ensures.on_bus c.goes_on.ensures.unchanged
+    c.goes_on_quietly.result c.goes_on_quietly.new.phase c.goes_on_quietly.ensures.on c.goes_on_quietly.ensures.on_bus c.goes_on_quietly.ensures.unchanged

@@ -8,11 +8,11 @@ invariant_of-self g c =
     let i = c.self.inside in
     let fields : MacState = record { phase = i.phase; role = i.role; overloads = i.overloads; counters = i.confine } in
     passes-IsMac fields c.self.invariant None tt c.args.seen
-    c.receiver_hears_on.result c.receiver_hears_on.new.phase (λ on s. c.receiver_hears_on.ensures.on on s None) c.receiver_hears_on.ensures.on_bus c.receiver_hears_on.ensures.unchanged
+    c.hears_on_silently.result c.hears_on_silently.new.phase (λ on s. c.hears_on_silently.ensures.on on s None) c.hears_on_silently.ensures.on_bus c.hears_on_silently.ensures.unchanged
 
 pub returns-in-StuffedPart-clause-kept : goal.returns-in-StuffedPart-clause-kept
 returns-in-StuffedPart-clause-kept g c =
     let i = c.self.inside in
     let fields : MacState = record { phase = i.phase; role = i.role; overloads = i.overloads; counters = i.confine } in
     passes-IsMac fields c.self.invariant None tt c.args.seen
-    c.receiver_hears_on.result c.receiver_hears_on.new.phase (λ on s. c.receiver_hears_on.ensures.on on s None) c.receiver_hears_on.ensures.on_bus c.receiver_hears_on.ensures.unchanged
+    c.hears_on_silently.result c.hears_on_silently.new.phase (λ on s. c.hears_on_silently.ensures.on on s None) c.hears_on_silently.ensures.on_bus c.hears_on_silently.ensures.unchanged

@@ -8,11 +8,11 @@ invariant_of-self g c =
     let i = c.self.inside in
     let fields : MacState = record { phase = i.phase; role = i.role; overloads = i.overloads; counters = i.confine } in
     passes-IsMac fields c.self.invariant None tt c.args.seen
-    c.goes_on_recessive.result c.goes_on_recessive.new.phase (λ on s same. c.goes_on_recessive.ensures.on on s None) c.goes_on_recessive.ensures.on_bus c.goes_on_recessive.ensures.unchanged
+    c.goes_on_silently.result c.goes_on_silently.new.phase (λ on s same. c.goes_on_silently.ensures.on on s None) c.goes_on_silently.ensures.on_bus c.goes_on_silently.ensures.unchanged
 
 pub returns-else-stays_off-clause-kept : goal.returns-else-stays_off-clause-kept
 returns-else-stays_off-clause-kept g c =
     let i = c.self.inside in
     let fields : MacState = record { phase = i.phase; role = i.role; overloads = i.overloads; counters = i.confine } in
     passes-IsMac fields c.self.invariant None tt c.args.seen
-    c.goes_on_recessive.result c.goes_on_recessive.new.phase (λ on s same. c.goes_on_recessive.ensures.on on s None) c.goes_on_recessive.ensures.on_bus c.goes_on_recessive.ensures.unchanged
+    c.goes_on_silently.result c.goes_on_silently.new.phase (λ on s same. c.goes_on_silently.ensures.on on s None) c.goes_on_silently.ensures.on_bus c.goes_on_silently.ensures.unchanged

@@ -12,9 +12,9 @@ returns c =
     let text = frame_text heard.frame in
     let acked = acknowledgement heard.acked in
     let first : c.push.new.line.items ≡ place ++ codes " " = c.push.ensures ∙ ap (λ t. t ++ codes " ") (c.push_number.ensures.text ∙ ap (λ t. t ++ place) c.requires) in
-    let second : c.push_frame.new.line.items ≡ (place ++ codes " ") ++ text =
-    c.push_frame.ensures.text ∙ ap (λ f. c.push.new.line.items ++ frame_text f) c.frame.ensures.value ∙ ap (λ t. t ++ text) first in
+    let second : c.push_text.new.text.items ≡ (place ++ codes " ") ++ text =
+    c.push_text.ensures.written ∙ ap (λ f. c.push.new.line.items ++ frame_text f) c.frame.ensures.value ∙ ap (λ t. t ++ text) first in
     let third : c.push_acknowledgement.new.line.items ≡ ((place ++ codes " ") ++ text) ++ acked =
-    c.push_acknowledgement.ensures.text ∙ ap (λ a. c.push_frame.new.line.items ++ acknowledgement a) c.acked.ensures ∙ ap (λ t. t ++ acked) second in
+    c.push_acknowledgement.ensures.text ∙ ap (λ a. c.push_text.new.text.items ++ acknowledgement a) c.acked.ensures ∙ ap (λ t. t ++ acked) second in
     c.push-2.ensures ∙ ap (λ t. t ++ codes "\n") (c.push_deviations.ensures.text ∙ ap (λ t. t ++ deviations heard) third)
     ∙ six_parts place (codes " ") text acked (deviations heard) (codes "\n")

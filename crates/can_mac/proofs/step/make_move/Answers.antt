@@ -1,7 +1,7 @@
 use Rattle.std.specs.Option.{option_copied}
 use Rattle.can_mac.specs.State.{MacState}
 use Rattle.can_mac.proofs.Landing.{lands-IsMac}
-use Rattle.can_mac.proofs.step.make_any.Goals as goal
+use Rattle.can_mac.proofs.step.make_move.Goals as goal
 
 pub returns-clause-kept : goal.returns-clause-kept
 returns-clause-kept g c =

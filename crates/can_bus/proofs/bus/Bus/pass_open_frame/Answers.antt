@@ -7,7 +7,7 @@ use Rattle.can_bus.proofs.OfferLemmas.{offers-rise}
 use Rattle.can_bus.proofs.OpenFrames.{open-call}
 use Rattle.can_bus.proofs.PortLoops.{all_back, length_back}
 use Rattle.can_bus.proofs.StepLemmas.{call_of}
-use Rattle.can_bus.proofs.bus.Bus.pass_open.Goals as goal
+use Rattle.can_bus.proofs.bus.Bus.pass_open_frame.Goals as goal
 
 pub offers_to-own-requires : goal.offers_to-own-requires
 offers_to-own-requires g c = offers-rise (length c.args.self.now.ports.items) c.args.offers.now c.requires.offered

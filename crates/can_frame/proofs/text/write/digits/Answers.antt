@@ -1,6 +1,6 @@
 use Rattle.std.proofs.Common.{◌++◌, ◌∙◌}
-use Rattle.can_texts.proofs.FrameText.{eight_digits, pairs_joined}
-use Rattle.can_texts.proofs.traces.text.digits.Goals as goal
+use Rattle.can_frame.proofs.Written.{eight_digits, pairs_joined}
+use Rattle.can_frame.proofs.text.write.digits.Goals as goal
 
 pub returns : goal.returns
 returns c =

@@ -4,7 +4,7 @@ use Rattle.can_bus.specs.Run.{begins_attempt, inverted_if, all_sampled}
 use Rattle.can_bus.specs.Walks.{AreBelow, IsPassed, in_now}
 use Rattle.can_bus.proofs.PortLoops.{all_back}
 use Rattle.can_bus.proofs.StepLemmas.{same_call, within_now, within_next, at_next, passed_more, step_is}
-use Rattle.can_bus.proofs.bus.Bus.step.Goals as goal
+use Rattle.can_bus.proofs.bus.Bus.take_level.Goals as goal
 
 pub hits_wire-hit-requires-clause-within : goal.hits_wire-hit-requires-clause-within
 hits_wire-hit-requires-clause-within g c =

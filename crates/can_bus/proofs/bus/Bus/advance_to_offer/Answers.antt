@@ -1,5 +1,5 @@
 use Rattle.can_bus.proofs.BusAtRest.{call_rested}
-use Rattle.can_bus.proofs.bus.Bus.go_on.Goals as goal
+use Rattle.can_bus.proofs.bus.Bus.advance_to_offer.Goals as goal
 
 pub returns-then-resting-gt0-clause-call : goal.returns-then-resting-gt0-clause-call
 returns-then-resting-gt0-clause-call g c =
