@@ -2,7 +2,7 @@ use Rattle.std.proofs.Common.{refl, ◌∙◌}
 use Rattle.can_gates.specs.Circuit.{value}
 use Rattle.can_gates.proofs.Constants.{value-never, value-always}
 use Rattle.can_gates_mac.proofs.NibbleBits.{nibble_is, flag_bit_cause_bits}
-use Rattle.can_gates_mac.proofs.sensing.flag_bit_cause_of.Goals as goal
+use Rattle.can_gates_mac.proofs.leaves.flag_bit_cause_of.Goals as goal
 
 pub returns : goal.returns
 returns c = λ v zero_is.

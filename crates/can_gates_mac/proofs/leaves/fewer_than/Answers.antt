@@ -1,7 +1,7 @@
 use Rattle.std.proofs.Common.{refl, ◌∙◌}
 use Rattle.can_gates.proofs.Constants.{value-never}
 use Rattle.can_gates_mac.proofs.NibbleBits.{nibble_is, nibble-bits, fewer_bits}
-use Rattle.can_gates_mac.proofs.sensing.fewer_than.Goals as goal
+use Rattle.can_gates_mac.proofs.leaves.fewer_than.Goals as goal
 
 pub returns : goal.returns
 returns c = λ v zero_is few.

@@ -3,7 +3,7 @@ use Rattle.std.proofs.lemmas.Bool.{ltb-true}
 use Rattle.can_gates.proofs.Constants.{value-never}
 use Rattle.can_gates_mac.specs.Nibbles.{nibble}
 use Rattle.can_gates_mac.proofs.NibbleBits.{nibble_is, nibble-bits, more_bits}
-use Rattle.can_gates_mac.proofs.sensing.more_than.Goals as goal
+use Rattle.can_gates_mac.proofs.leaves.more_than.Goals as goal
 
 pub returns : goal.returns
 returns c = λ v zero_is few.
