@@ -80,6 +80,14 @@ written_place v f all l i p within is before h = by (cases_eq p i)
     by (inl d) = rw d (ap (value v) (get_or-set_same all i l never within) ∙ is)
     by (inr d) = ap (value v) (get_or-set_other all i p l never d) ∙ before p (omega (arith, h, d))
 
+-- the same of the literals themselves
+pub written_literal : (f : ℕ → Literal) (all : List Literal) (l : Literal) (i p : ℕ) → i < length all → l ≡ f i → ((q : ℕ) → q < i → get_or all q never ≡ f q) → p < i + 1 → get_or (set all i l) p never ≡ f p
+written_literal f all l i p within is before h = by (cases_eq p i)
+  where
+    by : (p ≡ i) ⊎ (p ≡ i → ⊥) → get_or (set all i l) p never ≡ f p
+    by (inl d) = rw d (get_or-set_same all i l never within ∙ is)
+    by (inr d) = get_or-set_other all i p l never d ∙ before p (omega (arith, h, d))
+
 after_short : (b : Bool) (n : ℕ) → (n ≡ 5 → ⊥) → n ≤ 5 → cond b (n + 1) 1 ≤ 5
 after_short true n other few = omega (arith, other, few)
 after_short false n other few = omega arith

@@ -1,7 +1,7 @@
 -- The levels of a frame, laid out from its fields.
-use Rattle.std.proofs.Common.{◌≡◌, ℕ, ◌+◌, ◌-◌, ◌*◌, ◌/◌, ◌^◌, ◌<◌, Bool, true, false, cond, List, [], ◌∷◌, ◌++◌, take, drop, get_or, replicate, sym, ◌∙◌, ap, arith, append_assoc}
+use Rattle.std.proofs.Common.{◌≡◌, ℕ, suc, zero, ◌+◌, ◌-◌, ◌*◌, ◌/◌, ◌^◌, ◌<◌, ◌≤◌, Bool, true, false, cond, List, [], ◌∷◌, ◌++◌, take, drop, get_or, replicate, refl, sym, ◌∙◌, ap, arith, append_assoc}
 use Rattle.std.specs.List.{flat_map}
-use Rattle.std.proofs.lemmas.List.{map-append, take-take, drop-take}
+use Rattle.std.proofs.lemmas.List.{map-append, take-take, drop-take, get_or-drop}
 use Rattle.can_frame.specs.declared.level.Level.{Level}
 use Rattle.can_frame.specs.declared.level.Level.TheVariants.{Dominant, Recessive}
 use Rattle.can_frame.specs.Levels.{is_recessive, level_from, bits_of}
@@ -22,9 +22,10 @@ use Rattle.can_gates_mac.specs.Nibbles.{nibble}
 use Rattle.can_gates_controller.specs.declared.fields.Fields.{Fields}
 use Rattle.can_gates_controller.specs.Fronts.{HoldsLevels}
 use Rattle.can_gates_controller.specs.Fields.{identifier_places, bytes_in, frame_in}
-use Rattle.can_gates_controller.specs.Laying.{turned_word, turned_bytes, IsCleared}
+use Rattle.can_gates_controller.specs.Laying.{turned_word, turned_bytes, IsCleared, behind_list, standard_list, extended_list}
 use Rattle.can_gates_controller.proofs.WordParts.{number-split}
-use Rattle.can_gates_controller.proofs.TurnedLevels.{literal_level, levels_in, level_in, bit_back, levels_turned, levels_turned_bytes}
+use Rattle.can_gates_controller.proofs.ListPlaces.{left_at, right_at}
+use Rattle.can_gates_controller.proofs.TurnedLevels.{literal_level, levels_in, level_in, bit_back, levels_turned, levels_turned_bytes, length-turned, turned_at}
 use Rattle.can_gates_controller.proofs.Cleared.{cleared_levels}
 
 abbrev frame_from : ℕ → Bool → Bool → ℕ → List ℕ → Parts
@@ -113,24 +114,88 @@ module _ (v : ℕ → Bool) (zero_is : v 0 ≡ false) where
   by_format true all extended standard id remote dlc n bytes long short chosen = λ p h. chosen p h ∙ holds_of extended (head (frame_from (number v (take 29 id)) true remote dlc bytes)) n p long
   by_format false all extended standard id remote dlc n bytes long short chosen = λ p h. chosen p h ∙ holds_of standard (head (frame_from (number v (take 11 id)) false remote dlc bytes)) n p short
 
-  pub laid_is : (k : Fields) (all extended standard behind made : List Literal) → IsCleared v made k.bytes (byte_count (value v k.remote) (nibble v k.dlc))
-      → behind ≡ k.remote ∷ never ∷ never ∷ k.dlc.eights ∷ k.dlc.fours ∷ k.dlc.twos ∷ k.dlc.ones ∷ turned_bytes 8 made
-      → standard ≡ never ∷ (turned_word 11 k.identifier ++ behind)
-      → extended ≡ never ∷ (turned_word 11 (drop 18 k.identifier) ++ always ∷ always ∷ (turned_word 18 k.identifier ++ behind))
-      → ((p : ℕ) → p < 103 → value v (get_or all p never) ≡ cond (value v k.extended) (value v (get_or extended p never)) (value v (get_or standard p never)))
+  pub laid_is : (k : Fields) (all word made : List Literal) → IsCleared v made k.bytes (byte_count (value v k.remote) (nibble v k.dlc))
+      → word ≡ turned_bytes 8 made
+      → ((p : ℕ) → p < 103 → value v (get_or all p never) ≡ cond (value v k.extended) (value v (get_or (extended_list k word) p never)) (value v (get_or (standard_list k word) p never)))
       → HoldsLevels v all (head (frame_in v k))
   unfolding frame_in
-  laid_is k all extended standard behind made cleared behind_eq standard_eq extended_eq chosen =
+  laid_is k all word made cleared word_eq chosen =
       let id = k.identifier in
       let remote = value v k.remote in
       let dlc = nibble v k.dlc in
       let count = byte_count remote dlc in
       let bytes = bytes_in v count k.bytes in
       let past = replicate (8 * (8 - count)) Dominant in
-      let data_is = levels_turned_bytes v zero_is 8 made ∙ cleared_levels v made k.bytes count cleared (byte_count_le remote dlc) in
-      let rest = ap (levels_in v) behind_eq ∙ behind_is k.remote k.dlc (turned_bytes 8 made) (flat_map (bits_of 8) bytes ++ past) data_is in
-      let short = ap (levels_in v) standard_eq ∙ standard_is (turned_word 11 id) behind (number v (take 11 id)) remote dlc bytes past (levels_turned v zero_is 11 id) rest in
-      let long =
-      ap (levels_in v) extended_eq
-      ∙ extended_is (turned_word 11 (drop 18 id)) (turned_word 18 id) behind (number v (take 29 id)) remote dlc bytes past (levels_turned v zero_is 11 (drop 18 id) ∙ ap (bits_of 11) (upper_identifier v id)) (levels_turned v zero_is 18 id ∙ lower_identifier v id) rest in
-      by_format (value v k.extended) all extended standard id remote dlc (8 * (8 - count)) bytes long short chosen
+      let word_is = ap (levels_in v) word_eq ∙ levels_turned_bytes v zero_is 8 made ∙ cleared_levels v made k.bytes count cleared (byte_count_le remote dlc) in
+      let behind = behind_list k word in
+      let rest = behind_is k.remote k.dlc word (flat_map (bits_of 8) bytes ++ past) word_is in
+      let short = standard_is (turned_word 11 id) behind (number v (take 11 id)) remote dlc bytes past (levels_turned v zero_is 11 id) rest in
+      let long = extended_is (turned_word 11 (drop 18 id)) (turned_word 18 id) behind (number v (take 29 id)) remote dlc bytes past (levels_turned v zero_is 11 (drop 18 id) ∙ ap (bits_of 11) (upper_identifier v id)) (levels_turned v zero_is 18 id ∙ lower_identifier v id) rest in
+      by_format (value v k.extended) all (extended_list k word) (standard_list k word) id remote dlc (8 * (8 - count)) bytes long short chosen
+
+-- The levels place by place.
+
+module _ (k : Fields) (word : List Literal) where
+  -- a place of the first so many literals behind the start of frame, in the other order
+  identifier_level : (n : ℕ) (items rest : List Literal) (p : ℕ) → 1 ≤ p → p < 1 + n → get_or items (n - p) never ≡ get_or (never ∷ (turned_word n items ++ rest)) p never
+  identifier_level n items rest zero low h = absurd (omega (arith, low))
+  identifier_level n items rest (suc p) low h =
+      let e : n - suc p ≡ n - 1 - p = omega arith in
+      ap (λ q. get_or items q never) e ∙ sym (turned_at n items p (omega (arith, h))) ∙ left_at (turned_word n items) rest n p (length-turned n items) (omega (arith, h))
+
+  behind_identifier : (n : ℕ) (items rest : List Literal) (p : ℕ) → 1 + n ≤ p → get_or rest (p - (1 + n)) never ≡ get_or (never ∷ (turned_word n items ++ rest)) p never
+  behind_identifier n items rest zero low = absurd (omega (arith, low))
+  behind_identifier n items rest (suc p) low =
+      let e : suc p - (1 + n) ≡ p - n = omega arith in
+      ap (λ q. get_or rest q never) e ∙ right_at (turned_word n items) rest n p (length-turned n items) (omega (arith, low))
+
+  pub standard_identifier : (p : ℕ) → 1 ≤ p → p < 12 → get_or k.identifier (11 - p) never ≡ get_or (standard_list k word) p never
+  standard_identifier p low h = identifier_level 11 k.identifier (behind_list k word) p low h
+
+  pub standard_behind : (p : ℕ) → 12 ≤ p → get_or (behind_list k word) (p - 12) never ≡ get_or (standard_list k word) p never
+  standard_behind p low = behind_identifier 11 k.identifier (behind_list k word) p low
+
+  abbrev behind_upper : List Literal
+  behind_upper = always ∷ always ∷ (turned_word 18 k.identifier ++ behind_list k word)
+
+  pub extended_upper : (p : ℕ) → 1 ≤ p → p < 12 → get_or k.identifier (29 - p) never ≡ get_or (extended_list k word) p never
+  extended_upper p low h =
+      let e : 29 - p ≡ 18 + (11 - p) = omega (arith, h) in
+      ap (λ q. get_or k.identifier q never) e ∙ sym (get_or-drop 18 k.identifier (11 - p) never) ∙ identifier_level 11 (drop 18 k.identifier) behind_upper p low h
+
+  -- SRR and IDE
+  pub extended_recessive : (p : ℕ) → 12 ≤ p → p < 14 → always ≡ get_or (extended_list k word) p never
+  extended_recessive p low h = by (p - 12) (omega (arith, low, h)) ∙ behind_identifier 11 (drop 18 k.identifier) behind_upper p low
+    where
+      by : (q : ℕ) → q < 2 → always ≡ get_or behind_upper q never
+      by zero l = refl
+      by (suc zero) l = refl
+      by (suc (suc q)) l = absurd (omega (arith, l))
+
+  past_ide : (rest : List Literal) (p : ℕ) → 14 ≤ p → get_or rest (p - 14) never ≡ get_or (always ∷ always ∷ rest) (p - 12) never
+  past_ide rest p low =
+      let e : p - 14 ≡ p - 12 - 2 = omega arith in
+      ap (λ q. get_or rest q never) e ∙ right_at (always ∷ always ∷ []) rest 2 (p - 12) refl (omega (arith, low))
+
+  pub extended_lower : (p : ℕ) → 14 ≤ p → p < 32 → get_or k.identifier (31 - p) never ≡ get_or (extended_list k word) p never
+  extended_lower p low h =
+      let e : 31 - p ≡ 18 - 1 - (p - 14) = omega (arith, low, h) in
+      ap (λ q. get_or k.identifier q never) e
+      ∙ sym (turned_at 18 k.identifier (p - 14) (omega (arith, low, h)))
+      ∙ left_at (turned_word 18 k.identifier) (behind_list k word) 18 (p - 14) (length-turned 18 k.identifier) (omega (arith, low, h))
+      ∙ past_ide (turned_word 18 k.identifier ++ behind_list k word) p low
+      ∙ behind_identifier 11 (drop 18 k.identifier) behind_upper p (omega (arith, low))
+
+  pub extended_behind : (p : ℕ) → 32 ≤ p → get_or (behind_list k word) (p - 32) never ≡ get_or (extended_list k word) p never
+  extended_behind p low =
+      let e : p - 32 ≡ p - 14 - 18 = omega arith in
+      ap (λ q. get_or (behind_list k word) q never) e
+      ∙ right_at (turned_word 18 k.identifier) (behind_list k word) 18 (p - 14) (length-turned 18 k.identifier) (omega (arith, low))
+      ∙ past_ide (turned_word 18 k.identifier ++ behind_list k word) p (omega (arith, low))
+      ∙ behind_identifier 11 (drop 18 k.identifier) behind_upper p (omega (arith, low))
+
+  pub behind_first : (p : ℕ) → p < 7 → get_or (k.remote ∷ never ∷ never ∷ k.dlc.eights ∷ k.dlc.fours ∷ k.dlc.twos ∷ k.dlc.ones ∷ []) p never ≡ get_or (behind_list k word) p never
+  behind_first p h = left_at (k.remote ∷ never ∷ never ∷ k.dlc.eights ∷ k.dlc.fours ∷ k.dlc.twos ∷ k.dlc.ones ∷ []) word 7 p refl h
+
+  pub behind_bytes : (p : ℕ) → 7 ≤ p → get_or word (p - 7) never ≡ get_or (behind_list k word) p never
+  behind_bytes p low = right_at (k.remote ∷ never ∷ never ∷ k.dlc.eights ∷ k.dlc.fours ∷ k.dlc.twos ∷ k.dlc.ones ∷ []) word 7 p refl low

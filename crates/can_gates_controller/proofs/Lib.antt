@@ -24,5 +24,6 @@ pub mod Taking
 pub mod StepsTaken
 pub mod RunsOf
 pub mod ListedLemmas
+pub mod ListPlaces
 -- known values
 mod Rows

@@ -45,6 +45,12 @@ placed_at (suc n) [] p h = placed_past (suc n) p
 placed_at (suc n) (l ∷ word) zero h = refl
 placed_at (suc n) (l ∷ word) (suc p) h = placed_at n word p (omega (arith, h))
 
+pub placed_whole : (n : ℕ) (word : List Literal) → length word ≡ n → placed n word ≡ word
+placed_whole zero [] long = refl
+placed_whole zero (l ∷ word) long = absurd (omega (arith, long))
+placed_whole (suc n) [] long = absurd (omega (arith, long))
+placed_whole (suc n) (l ∷ word) long = ap (λ t. l ∷ t) (placed_whole n word (omega (arith, long)))
+
 pub length-counters : (k : Counters) → length (counters_list k) ≡ 24
 length-counters k = omega (arith, length-append (placed 9 k.tec ++ placed 8 k.rec) (placed 7 k.occurrences), length-append (placed 9 k.tec) (placed 8 k.rec), length-placed 9 k.tec, length-placed 8 k.rec, length-placed 7 k.occurrences)
 

@@ -1,6 +1,6 @@
 -- The fields of a frame, read from its levels.
-use Rattle.std.proofs.Common.{◌≡◌, ℕ, ◌+◌, ◌*◌, ◌^◌, ◌<◌, ◌≤◌, Bool, true, false, cond, Option, Some, None, List, [], ◌∷◌, ◌++◌, length, take, drop, get_or, refl, sym, subst, ◌∙◌, ap, arith, append-nil}
-use Rattle.std.proofs.lemmas.List.{get_or-drop, drop-drop, take_all, take_at, drop_all, drop_at}
+use Rattle.std.proofs.Common.{◌≡◌, ℕ, ◌+◌, ◌-◌, ◌*◌, ◌^◌, ◌<◌, ◌≤◌, Bool, true, false, cond, Option, Some, None, List, [], ◌∷◌, ◌++◌, length, take, drop, get_or, refl, sym, subst, ◌∙◌, ap, arith, append-nil, length-append}
+use Rattle.std.proofs.lemmas.List.{get_or-drop, get_or_past, drop-drop, take_all, take_at, drop_all, drop_at}
 use Rattle.can_frame.specs.declared.level.Level.{Level}
 use Rattle.can_frame.specs.declared.level.Level.TheVariants.{Dominant}
 use Rattle.can_frame.specs.Levels.{is_recessive, number_from}
@@ -30,9 +30,10 @@ use Rattle.can_gates_controller.specs.Fronts.{HoldsLevels}
 use Rattle.can_gates_controller.specs.Following.{IsEventIn}
 use Rattle.can_gates_controller.specs.Whole.{HoldsAll}
 use Rattle.can_gates_controller.specs.Fields.{identifier_places, bytes_in, frame_in, HoldsFields, frame_told}
-use Rattle.can_gates_controller.specs.Laying.{turned_word, turned_bytes, IsCleared}
+use Rattle.can_gates_controller.specs.Laying.{turned_word, turned_bytes, long_list, short_list, IsCleared}
+use Rattle.can_gates_controller.proofs.ListPlaces.{left_at, right_at}
 use Rattle.can_gates_controller.proofs.WordParts.{number-split}
-use Rattle.can_gates_controller.proofs.TurnedLevels.{levels_in, length-turned, number_turned, bytes_turned, filled_same, bytes_from_same, levels_behind}
+use Rattle.can_gates_controller.proofs.TurnedLevels.{levels_in, length-turned, turned_at, number_turned, bytes_turned, filled_same, bytes_from_same, levels_behind}
 
 -- a frame's own levels tell it
 pub own_frame_of : (f : Parts) → IsFrame f → frame_of (head f) ≡ f
@@ -165,3 +166,33 @@ module _ (v : ℕ → Bool) (k : Registers) (m : MacState) (levels : List Litera
   told_levels (Some Overload) f held told e chosen = cc e
   told_levels (Some WentOff) f held told e chosen = cc e
   told_levels (Some Recovered) f held told e chosen = cc e
+
+-- The identifier's bits, place by place.
+
+module _ (levels : List Literal) where
+  turned_level : (n s p : ℕ) → p < n → get_or levels (s + (n - 1 - p)) never ≡ get_or (turned_word n (drop s levels)) p never
+  turned_level n s p h = sym (turned_at n (drop s levels) p h ∙ get_or-drop s levels (n - 1 - p) never)
+
+  pub short_at : (p : ℕ) → p < 11 → get_or levels (11 - p) never ≡ get_or (short_list levels) p never
+  short_at p h = let e : 11 - p ≡ 1 + (11 - 1 - p) = omega (arith, h) in ap (λ q. get_or levels q never) e ∙ turned_level 11 1 p h
+
+  pub short_past : (p : ℕ) → 11 ≤ p → never ≡ get_or (short_list levels) p never
+  short_past p h = sym (get_or_past (short_list levels) p never (omega (arith, h, length-turned 11 (drop 1 levels))))
+
+  pub long_lower : (p : ℕ) → p < 18 → get_or levels (31 - p) never ≡ get_or (long_list levels) p never
+  long_lower p h =
+      let e : 31 - p ≡ 14 + (18 - 1 - p) = omega (arith, h) in
+      ap (λ q. get_or levels q never) e ∙ turned_level 18 14 p h ∙ left_at (turned_word 18 (drop 14 levels)) (turned_word 11 (drop 1 levels)) 18 p (length-turned 18 (drop 14 levels)) h
+
+  pub long_upper : (p : ℕ) → 18 ≤ p → p < 29 → get_or levels (29 - p) never ≡ get_or (long_list levels) p never
+  long_upper p low h =
+      let e : 29 - p ≡ 1 + (11 - 1 - (p - 18)) = omega (arith, low, h) in
+      ap (λ q. get_or levels q never) e
+      ∙ turned_level 11 1 (p - 18) (omega (arith, low, h))
+      ∙ right_at (turned_word 18 (drop 14 levels)) (turned_word 11 (drop 1 levels)) 18 p (length-turned 18 (drop 14 levels)) low
+
+  pub length-short : length (short_list levels) ≡ 11
+  length-short = length-turned 11 (drop 1 levels)
+
+  pub length-long : length (long_list levels) ≡ 29
+  length-long = length-append (turned_word 18 (drop 14 levels)) (turned_word 11 (drop 1 levels)) ∙ rw (length-turned 18 (drop 14 levels), length-turned 11 (drop 1 levels)) refl

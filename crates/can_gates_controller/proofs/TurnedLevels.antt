@@ -1,8 +1,9 @@
 -- Words have their lowest place first, levels the highest: one in the order of the other is its number.
-use Rattle.std.proofs.Common.{◌≡◌, ℕ, suc, zero, ◌+◌, ◌*◌, ◌/◌, ◌%◌, ◌^◌, ◌<◌, ◌≤◌, Bool, true, false, List, [], ◌∷◌, ◌++◌, map, length, take, drop, get_or, refl, sym, ◌∙◌, ap, arith, append_assoc, append-nil}
+use Rattle.std.proofs.Common.{◌≡◌, ℕ, suc, zero, ◌+◌, ◌-◌, ◌*◌, ◌/◌, ◌%◌, ◌^◌, ◌<◌, ◌≤◌, ◌⊎◌, inl, inr, Bool, true, false, List, [], ◌∷◌, ◌++◌, map, length, take, drop, get_or, refl, sym, ◌∙◌, ap, arith, length-append}
 use Rattle.std.specs.List.{flat_map}
 use Rattle.std.proofs.lemmas.Nat.{shr_high}
-use Rattle.std.proofs.lemmas.List.{drop-map, drop-drop, map-append, get_or-drop}
+use Rattle.std.proofs.lemmas.Bool.{cases_lt}
+use Rattle.std.proofs.lemmas.List.{drop-map, map-append, get_or-drop, get_or_append_left, get_or-append_right}
 use Rattle.can_frame.specs.declared.level.Level.{Level}
 use Rattle.can_frame.specs.declared.level.Level.TheVariants.{Dominant, Recessive}
 use Rattle.can_frame.specs.Levels.{is_recessive, level_from, level_of, bits_of, number_from}
@@ -130,22 +131,32 @@ pub levels_behind : (v : ℕ → Bool) → v 0 ≡ false → (items : List Liter
 levels_behind v zero_is items u s p is =
     level_in v zero_is (drop s items) p ∙ ap (literal_level v) (get_or-drop s items p never) ∙ ap level_from is ∙ level_back (level_at u (s + p)) ∙ sym (get_or-drop s u p Dominant)
 
--- Literals appended in the other order, one by one and byte by byte.
+-- The places of literals in the other order.
 
-pub turned_more : (out new items : List Literal) (l : Literal) (s n left m : ℕ) → n ≡ suc m → left ≡ m → new ≡ out ++ l ∷ [] → l ≡ get_or items (s + m) never → new ++ turned_word left (drop s items) ≡ out ++ turned_word n (drop s items)
+pub turned_at : (n : ℕ) (items : List Literal) (p : ℕ) → p < n → get_or (turned_word n items) p never ≡ get_or items (n - 1 - p) never
 unfolding turned_word
-turned_more out new items l s n left m here below pushed is =
-    rw (here, below, pushed) (append_assoc out (l ∷ []) (turned_word m (drop s items)) ∙ ap (λ t. out ++ t ∷ turned_word m (drop s items)) (is ∙ sym (get_or-drop s items m never)))
+turned_at zero items p h = absurd (omega (arith, h))
+turned_at (suc n) items zero h = let e : n ≡ suc n - 1 - 0 = omega arith in ap (λ q. get_or items q never) e
+turned_at (suc n) items (suc p) h = let e : n - 1 - p ≡ suc n - 1 - suc p = omega arith in turned_at n items p (omega (arith, h)) ∙ ap (λ q. get_or items q never) e
 
-pub turned_whole : (out items : List Literal) (s n : ℕ) → n ≡ 0 → out ≡ out ++ turned_word n (drop s items)
-unfolding turned_word
-turned_whole out items s n none = rw none (sym (append-nil out))
-
-pub turned_bytes_more : (out new items : List Literal) (s next n m : ℕ) → n ≡ suc m → s + 8 ≡ next → new ≡ out ++ turned_word 8 (drop s items) → new ++ turned_bytes m (drop next items) ≡ out ++ turned_bytes n (drop s items)
+pub length-turned_bytes : (n : ℕ) (items : List Literal) → length (turned_bytes n items) ≡ 8 * n
 unfolding turned_bytes
-turned_bytes_more out new items s next n m here on pushed =
-    rw (here, pushed) (append_assoc out (turned_word 8 (drop s items)) (turned_bytes m (drop next items)) ∙ ap (λ t. out ++ (turned_word 8 (drop s items) ++ turned_bytes m t)) (sym (drop-drop 8 s items ∙ ap (λ k. drop k items) on)))
+length-turned_bytes zero items = refl
+length-turned_bytes (suc n) items = omega (arith, length-append (turned_word 8 items) (turned_bytes n (drop 8 items)), length-turned 8 items, length-turned_bytes n (drop 8 items))
 
-pub turned_bytes_whole : (out items : List Literal) (n : ℕ) → n ≡ 0 → out ≡ out ++ turned_bytes n items
+pub turned_bytes_at : (n : ℕ) (items : List Literal) (p : ℕ) → p < 8 * n → get_or (turned_bytes n items) p never ≡ get_or items (p / 8 * 8 + (7 - p % 8)) never
 unfolding turned_bytes
-turned_bytes_whole out items n none = rw none (sym (append-nil out))
+turned_bytes_at zero items p h = absurd (omega (arith, h))
+turned_bytes_at (suc n) items p h = by (cases_lt p 8) (λ l. turned_bytes_at n (drop 8 items) (p - 8) (omega (arith, l, h)))
+  where
+    by : (p < 8) ⊎ (8 ≤ p) → (8 ≤ p → get_or (turned_bytes n (drop 8 items)) (p - 8) never ≡ get_or (drop 8 items) ((p - 8) / 8 * 8 + (7 - (p - 8) % 8)) never) → get_or (turned_word 8 items ++ turned_bytes n (drop 8 items)) p never ≡ get_or items (p / 8 * 8 + (7 - p % 8)) never
+    by (inl l) rest =
+        let e : 8 - 1 - p ≡ p / 8 * 8 + (7 - p % 8) = omega (arith, l) in
+        get_or_append_left (turned_word 8 items) (turned_bytes n (drop 8 items)) never p (omega (arith, l, length-turned 8 items)) ∙ turned_at 8 items p l ∙ ap (λ q. get_or items q never) e
+    by (inr l) rest =
+        let q = p - 8 in
+        let e : 8 + (q / 8 * 8 + (7 - q % 8)) ≡ p / 8 * 8 + (7 - p % 8) = omega (arith, l) in
+        get_or-append_right (turned_word 8 items) (turned_bytes n (drop 8 items)) 8 p never (length-turned 8 items) l
+        ∙ rest l
+        ∙ get_or-drop 8 items (q / 8 * 8 + (7 - q % 8)) never
+        ∙ ap (λ r. get_or items r never) e

@@ -1,7 +1,8 @@
 -- How the literals of fields become those of levels, and the other way round.
-use Rattle.std.specs.Prelude.{ℕ, zero, suc, ◌≡◌, ◌*◌, Bool, false, List, [], ◌∷◌, ◌++◌, drop, slice_index_or}
+use Rattle.std.specs.Prelude.{ℕ, zero, suc, ◌≡◌, ◌*◌, Bool, true, false, List, [], ◌∷◌, ◌++◌, drop, slice_index_or}
 use Rattle.can_gates.specs.declared.literal.Literal.{Literal}
 use Rattle.can_gates.specs.Words.{number}
+use Rattle.can_gates_controller.specs.declared.fields.Fields.{Fields}
 use Rattle.can_gates_controller.specs.Fields.{bytes_in}
 
 -- the first n literals, the last of them first: a word has its lowest place first, and on the bus the highest goes first. Past
@@ -14,6 +15,27 @@ turned_word (suc n) items = slice_index_or items n (record { signal = 0; negated
 unfoldable pub turned_bytes : ℕ → List Literal → List Literal
 turned_bytes zero items = []
 turned_bytes (suc n) items = turned_word 8 items ++ turned_bytes n (drop 8 items)
+
+-- from its RTR bit on: in a standard frame IDE and r0 follow it, in an extended one r1 and r0, and then in both the data length code,
+-- its highest place first, and the data
+abbrev pub behind_list : Fields → List Literal → List Literal
+behind_list k bytes = k.remote ∷ record { signal = 0; negated = false } ∷ record { signal = 0; negated = false } ∷ k.dlc.eights ∷ k.dlc.fours ∷ k.dlc.twos ∷ k.dlc.ones ∷ bytes
+
+-- the levels of a standard frame, up to the end of these data
+abbrev pub standard_list : Fields → List Literal → List Literal
+standard_list k bytes = record { signal = 0; negated = false } ∷ (turned_word 11 k.identifier ++ behind_list k bytes)
+
+-- those of an extended one
+abbrev pub extended_list : Fields → List Literal → List Literal
+extended_list k bytes = record { signal = 0; negated = false } ∷ (turned_word 11 (drop 18 k.identifier) ++ record { signal = 0; negated = true } ∷ record { signal = 0; negated = true } ∷ (turned_word 18 k.identifier ++ behind_list k bytes))
+
+-- the identifier of an extended frame that begins with these levels, the lowest place first
+abbrev pub long_list : List Literal → List Literal
+long_list levels = turned_word 18 (drop 14 levels) ++ turned_word 11 (drop 1 levels)
+
+-- that of a standard one
+abbrev pub short_list : List Literal → List Literal
+short_list levels = turned_word 11 (drop 1 levels)
 
 -- the first n bytes are those of other data, and behind them stands 0
 pub record IsCleared (v : ℕ → Bool) (made old : List Literal) (n : ℕ) : Type 0 where

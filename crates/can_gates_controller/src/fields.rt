@@ -9,12 +9,6 @@ ghost use Rattle.can_gates_controller.specs.Laying.{IsCleared};
 use can_gates::{Circuit, FALSE, Literal, literal_at};
 use can_gates_mac::Nibble;
 
-/// How many bits a standard identifier has, and how many of an extended one stand before its SRR bit.
-pub(crate) const UPPER_BITS: usize = 11;
-
-/// How many bits of an extended identifier stand behind its IDE bit.
-pub(crate) const LOWER_BITS: usize = 18;
-
 /// How many places the data have.
 const PLACES: usize = 64;
 

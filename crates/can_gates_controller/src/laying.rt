@@ -1,45 +1,79 @@
 //! The levels of a frame, laid out from its fields. (Bosch CAN 2.0 part B, section 3.2.1)
-ghost use Rattle.std.specs.Prelude.{◌≡◌, ◌++◌, ◌∷◌, drop, IfOk};
+ghost use Rattle.std.specs.Prelude.{◌≡◌, ◌<◌, ℕ, if◌then◌else◌, length, slice_index_or};
 ghost use Rattle.can_wire.specs.Wire.{head};
-ghost use Rattle.can_gates.specs.Circuit.{Makes};
+ghost use Rattle.can_gates.specs.Circuit.{value, Makes};
 ghost use Rattle.can_gates_controller.specs.Fronts.{HoldsLevels};
 ghost use Rattle.can_gates_controller.specs.Fields.{frame_in};
-ghost use Rattle.can_gates_controller.specs.Laying.{turned_word, turned_bytes};
+ghost use Rattle.can_gates_controller.specs.Laying.{standard_list, extended_list, behind_list};
 
-use crate::fields::{Fields, LOWER_BITS, UPPER_BITS, clear_behind};
-use crate::levels::choose_levels;
-use crate::turning::{push_turned, push_turned_bytes};
-use can_gates::{Circuit, FALSE, Literal, TRUE};
-use std::alloc::{AllocError, Global};
+use crate::fields::{Fields, clear_behind};
+use crate::turning::turn_bytes;
+use can_gates::{Circuit, FALSE, Literal, TRUE, literal_at};
+
+/// How many levels a frame has up to the end of its data, at most.
+const PLACES: usize = 103;
 
 /// The levels of the frame that fields are, up to the end of its data.
-pub fn levels_of(
-    circuit: &mut Circuit,
-    alloc: Global,
-    fields: &Fields,
-) -> Result<[Literal; 103], AllocError>
-    ensures { IfOk result (λ r. Makes circuit.old circuit.new (λ v. HoldsLevels v r (head (frame_in v fields.now)))) }
+pub fn levels_of(circuit: &mut Circuit, fields: &Fields) -> [Literal; 103]
+    ensures { Makes circuit.old circuit.new (λ v. HoldsLevels v result (head (frame_in v fields.now))) }
 {
     let bytes = clear_behind(circuit, fields.remote, fields.dlc, &fields.bytes);
-    let behind = behind_identifier(alloc, fields, &bytes)?;
-    let standard = standard_levels(alloc, &fields.identifier, &behind)?;
-    let extended = extended_levels(alloc, &fields.identifier, &behind)?;
-    let made = choose_levels(circuit, fields.extended, &extended, &standard);
-    Ok(made)
+    let levels = turn_bytes(&bytes, 0);
+    lay_out(circuit, fields, &levels)
 }
 
-/// The levels from the RTR bit to the end of the data: in a standard frame IDE and r0 follow it, in an extended one r1 and r0.
-fn behind_identifier(
-    alloc: Global,
-    fields: &Fields,
-    bytes: &[Literal],
-) -> Result<Vec<Literal>, AllocError>
-    ensures { IfOk result (λ r. r.items ≡ fields.now.remote ∷ FALSE ∷ FALSE ∷ fields.now.dlc.eights ∷ fields.now.dlc.fours ∷ fields.now.dlc.twos ∷ fields.now.dlc.ones ∷ turned_bytes 8 bytes.now) }
+/// The levels by the format, where these are the levels of its bytes.
+fn lay_out(circuit: &mut Circuit, fields: &Fields, bytes: &[Literal; 64]) -> [Literal; 103]
+    ensures { Makes circuit.old circuit.new (λ v. (p : ℕ) → p < 103 → value v (slice_index_or result p FALSE) ≡ (if value v fields.now.extended then value v (slice_index_or (extended_list fields.now bytes.now) p FALSE) else value v (slice_index_or (standard_list fields.now bytes.now) p FALSE))) }
 {
-    let dlc = fields.dlc;
-    let mut all = Vec::from_slice(
-        alloc,
-        &[
+    let mut all = [FALSE; PLACES];
+    for place in 0..PLACES {
+        let extended = extended_level(fields, bytes, place);
+        let standard = standard_level(fields, bytes, place);
+        all[place] = circuit.ite(fields.extended, extended, standard);
+    }
+    all
+}
+
+/// A level of a standard frame.
+fn standard_level(fields: &Fields, bytes: &[Literal; 64], place: usize) -> Literal
+    ensures { result ≡ slice_index_or (standard_list fields.now bytes.now) place FALSE }
+{
+    if place == 0 {
+        return FALSE;
+    }
+    if place < 12 {
+        return literal_at(&fields.identifier, 11 - place);
+    }
+    level_behind(fields, bytes, place - 12)
+}
+
+/// A level of an extended frame: SRR and IDE stand behind the identifier's eleven highest bits.
+fn extended_level(fields: &Fields, bytes: &[Literal; 64], place: usize) -> Literal
+    ensures { result ≡ slice_index_or (extended_list fields.now bytes.now) place FALSE }
+{
+    if place == 0 {
+        return FALSE;
+    }
+    if place < 12 {
+        return literal_at(&fields.identifier, 29 - place);
+    }
+    if place < 14 {
+        return TRUE;
+    }
+    if place < 32 {
+        return literal_at(&fields.identifier, 31 - place);
+    }
+    level_behind(fields, bytes, place - 32)
+}
+
+/// A level from the RTR bit on: in a standard frame IDE and r0 follow it, in an extended one r1 and r0.
+fn level_behind(fields: &Fields, bytes: &[Literal; 64], place: usize) -> Literal
+    ensures { result ≡ slice_index_or (behind_list fields.now bytes.now) place FALSE }
+{
+    if place < 7 {
+        let dlc = fields.dlc;
+        let first = [
             fields.remote,
             FALSE,
             FALSE,
@@ -47,38 +81,8 @@ fn behind_identifier(
             dlc.fours,
             dlc.twos,
             dlc.ones,
-        ],
-    )?;
-    push_turned_bytes(&mut all, bytes, 0)?;
-    Ok(all)
-}
-
-/// The levels of a standard frame, by its identifier and what follows that.
-fn standard_levels(
-    alloc: Global,
-    identifier: &[Literal],
-    behind: &[Literal],
-) -> Result<Vec<Literal>, AllocError>
-    ensures { IfOk result (λ r. r.items ≡ FALSE ∷ (turned_word 11 identifier.now ++ behind.now)) }
-{
-    let mut all = Vec::from_slice(alloc, &[FALSE])?;
-    push_turned(&mut all, identifier, 0, UPPER_BITS)?;
-    all.extend_from_slice(behind)?;
-    Ok(all)
-}
-
-/// The levels of an extended frame: SRR and IDE stand behind the identifier's eleven highest bits.
-fn extended_levels(
-    alloc: Global,
-    identifier: &[Literal],
-    behind: &[Literal],
-) -> Result<Vec<Literal>, AllocError>
-    ensures { IfOk result (λ r. r.items ≡ FALSE ∷ (turned_word 11 (drop 18 identifier.now) ++ TRUE ∷ TRUE ∷ (turned_word 18 identifier.now ++ behind.now))) }
-{
-    let mut all = Vec::from_slice(alloc, &[FALSE])?;
-    push_turned(&mut all, identifier, LOWER_BITS, UPPER_BITS)?;
-    all.extend_from_slice(&[TRUE, TRUE])?;
-    push_turned(&mut all, identifier, 0, LOWER_BITS)?;
-    all.extend_from_slice(behind)?;
-    Ok(all)
+        ];
+        return literal_at(&first, place);
+    }
+    literal_at(bytes, place - 7)
 }

@@ -1,6 +1,6 @@
-//! All registers in one list, and all that goes out, in the order of a file.
-ghost use Rattle.std.specs.Prelude.{◌≡◌, ◌<◌, ◌++◌, ℕ, false, IfOk, OnOk, length, slice_index_or};
-ghost use Rattle.can_gates_controller.specs.Listed.{placed, wires_list, counters_list, heard_list, register_list, field_list, output_list};
+//! The order in which a file has registers and what goes out.
+ghost use Rattle.std.specs.Prelude.{◌≡◌, ◌<◌, ℕ, false, IfOk, length, slice_index_or};
+ghost use Rattle.can_gates_controller.specs.Listed.{wires_list, counters_list, heard_list, register_list, field_list, output_list};
 ghost use Rattle.can_gates_controller.specs.Stepped.{IsRegister};
 
 use crate::fields::Fields;
@@ -11,112 +11,141 @@ use can_gates::{FALSE, Literal, Register, literal_at};
 use can_gates_mac::{Counters, Wires};
 use std::alloc::{AllocError, Global};
 
-/// The literals of all registers.
-pub(crate) fn list(alloc: Global, k: &Registers) -> Result<Vec<Literal>, AllocError>
-    ensures { IfOk result (λ r. r.items ≡ register_list k.now) }
+/// How many places go out.
+const OUTPUTS: usize = 124;
+
+/// The register of this place.
+pub(crate) fn register_at(k: &Registers, place: usize) -> Literal
+    requires { place < 277 }
+    ensures { result ≡ slice_index_or (register_list k.now) place FALSE }
 {
-    let mut all = list_wires(alloc, k.controller.wires)?;
-    let counters = list_counters(alloc, &k.controller.counters)?;
-    let heard = list_heard(alloc, &k.heard)?;
-    all.extend_from_slice(&counters)?;
-    all.extend_from_slice(&heard)?;
-    push_places(&mut all, &k.own, 103)?;
-    Ok(all)
+    if place < 20 {
+        return wire_at(k.controller.wires, place);
+    }
+    if place < 44 {
+        return counter_at(&k.controller.counters, place - 20);
+    }
+    if place < 174 {
+        return heard_at(&k.heard, place - 44);
+    }
+    literal_at(&k.own, place - 174)
 }
 
-/// Those of a controller but for its counters.
-fn list_wires(alloc: Global, k: Wires) -> Result<Vec<Literal>, AllocError>
-    ensures { IfOk result (λ r. r.items ≡ wires_list k) }
+/// That of a controller but for its counters.
+fn wire_at(k: Wires, place: usize) -> Literal
+    ensures { result ≡ slice_index_or (wires_list k) place FALSE }
 {
-    let all = Vec::from_slice(
-        alloc,
-        &[
-            k.phase.ones,
-            k.phase.twos,
-            k.phase.fours,
-            k.phase.eights,
-            k.place.ones,
-            k.place.twos,
-            k.place.fours,
-            k.place.eights,
-            k.last,
-            k.unacknowledged,
-            k.first,
-            k.sender,
-            k.pending.ones,
-            k.pending.twos,
-            k.pending.fours,
-            k.pending.eights,
-            k.used.ones,
-            k.used.twos,
-            k.used.fours,
-            k.used.eights,
-        ],
-    )?;
-    Ok(all)
+    let all = [
+        k.phase.ones,
+        k.phase.twos,
+        k.phase.fours,
+        k.phase.eights,
+        k.place.ones,
+        k.place.twos,
+        k.place.fours,
+        k.place.eights,
+        k.last,
+        k.unacknowledged,
+        k.first,
+        k.sender,
+        k.pending.ones,
+        k.pending.twos,
+        k.pending.fours,
+        k.pending.eights,
+        k.used.ones,
+        k.used.twos,
+        k.used.fours,
+        k.used.eights,
+    ];
+    literal_at(&all, place)
 }
 
-/// Those of its counters.
-fn list_counters(alloc: Global, k: &Counters) -> Result<Vec<Literal>, AllocError>
-    ensures { IfOk result (λ r. r.items ≡ counters_list k.now) }
+/// That of its counters.
+fn counter_at(k: &Counters, place: usize) -> Literal
+    requires { place < 24 }
+    ensures { result ≡ slice_index_or (counters_list k.now) place FALSE }
 {
-    let mut all = Vec::new(alloc);
-    push_places(&mut all, &k.tec, 9)?;
-    push_places(&mut all, &k.rec, 8)?;
-    push_places(&mut all, &k.occurrences, 7)?;
-    Ok(all)
+    if place < 9 {
+        return literal_at(&k.tec, place);
+    }
+    if place < 17 {
+        return literal_at(&k.rec, place - 9);
+    }
+    literal_at(&k.occurrences, place - 17)
 }
 
-/// Those of what is heard.
-fn list_heard(alloc: Global, k: &Heard) -> Result<Vec<Literal>, AllocError>
-    ensures { IfOk result (λ r. r.items ≡ heard_list k.now) }
+/// That of what is heard.
+fn heard_at(k: &Heard, place: usize) -> Literal
+    requires { place < 130 }
+    ensures { result ≡ slice_index_or (heard_list k.now) place FALSE }
 {
-    let mut all = Vec::new(alloc);
-    push_places(&mut all, &k.levels, 103)?;
-    push_places(&mut all, &k.count, 7)?;
-    let run = k.run;
-    all.extend_from_slice(&[k.last, run.ones, run.twos, run.fours, run.eights])?;
-    push_places(&mut all, &k.check, 15)?;
-    Ok(all)
+    if place < 103 {
+        return literal_at(&k.levels, place);
+    }
+    if place < 110 {
+        return literal_at(&k.count, place - 103);
+    }
+    if place < 115 {
+        let run = k.run;
+        return literal_at(
+            &[k.last, run.ones, run.twos, run.fours, run.eights],
+            place - 110,
+        );
+    }
+    literal_at(&k.check, place - 115)
 }
 
 /// The literals of what goes out.
 pub(crate) fn list_outputs(alloc: Global, k: &OutputPorts) -> Result<Vec<Literal>, AllocError>
     ensures { IfOk result (λ r. r.items ≡ output_list k.now) }
 {
-    let told = k.told;
-    let mut all = Vec::from_slice(
-        alloc,
-        &[k.drive, told.ones, told.twos, told.fours, told.eights],
-    )?;
-    let frame = list_fields(alloc, &k.frame)?;
-    all.extend_from_slice(&frame)?;
-    push_places(&mut all, &k.tec, 9)?;
-    push_places(&mut all, &k.rec, 8)?;
-    all.extend_from_slice(&[k.passive, k.off, k.legal])?;
-    Ok(all)
-}
-
-/// Those of a frame.
-fn list_fields(alloc: Global, k: &Fields) -> Result<Vec<Literal>, AllocError>
-    ensures { IfOk result (λ r. r.items ≡ field_list k.now) }
-{
-    let mut all = Vec::from_slice(alloc, &[k.extended, k.remote])?;
-    push_places(&mut all, &k.identifier, 29)?;
-    let dlc = k.dlc;
-    all.extend_from_slice(&[dlc.ones, dlc.twos, dlc.fours, dlc.eights])?;
-    push_places(&mut all, &k.bytes, 64)?;
-    Ok(all)
-}
-
-/// Appends the first literals of a word, so many.
-fn push_places(out: &mut Vec<Literal>, word: &[Literal], places: usize) -> Result<(), AllocError>
-    ensures { OnOk result (out.new.items ≡ out.old.items ++ placed places word.now) }
-{
-    for place in 0..places {
-        out.push(literal_at(word, place))?;
+    let mut all = Vec::new(alloc);
+    for place in 0..OUTPUTS {
+        all.push(output_at(k, place))?;
     }
-    Ok(())
+    Ok(all)
+}
+
+/// The literal of this place of what goes out.
+fn output_at(k: &OutputPorts, place: usize) -> Literal
+    requires { place < 124 }
+    ensures { result ≡ slice_index_or (output_list k.now) place FALSE }
+{
+    if place < 5 {
+        let told = k.told;
+        return literal_at(
+            &[k.drive, told.ones, told.twos, told.fours, told.eights],
+            place,
+        );
+    }
+    if place < 104 {
+        return field_at(&k.frame, place - 5);
+    }
+    if place < 113 {
+        return literal_at(&k.tec, place - 104);
+    }
+    if place < 121 {
+        return literal_at(&k.rec, place - 113);
+    }
+    literal_at(&[k.passive, k.off, k.legal], place - 121)
+}
+
+/// That of a frame.
+fn field_at(k: &Fields, place: usize) -> Literal
+    requires { place < 99 }
+    ensures { result ≡ slice_index_or (field_list k.now) place FALSE }
+{
+    if place < 2 {
+        return literal_at(&[k.extended, k.remote], place);
+    }
+    if place < 31 {
+        return literal_at(&k.identifier, place - 2);
+    }
+    if place < 35 {
+        let dlc = k.dlc;
+        return literal_at(&[dlc.ones, dlc.twos, dlc.fours, dlc.eights], place - 31);
+    }
+    literal_at(&k.bytes, place - 35)
 }
 
 /// The registers that take these literals, and start with 0.

@@ -22,7 +22,7 @@ pub fn controller_circuit(alloc: Global) -> Result<Design, AllocError>
     let mut circuit = Circuit::new(alloc, INPUTS);
     let inputs = input_ports();
     let held = registers();
-    let (next, outputs) = step(&mut circuit, alloc, &held, &inputs)?;
+    let (next, outputs) = step(&mut circuit, &held, &inputs);
     if !circuit.is_complete() {
         return Err(AllocError);
     }

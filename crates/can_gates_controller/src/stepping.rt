@@ -1,22 +1,22 @@
 //! A step: a reset, a bit time, or nothing.
-ghost use Rattle.std.specs.Prelude.{◌≡◌, ◌<◌, ◌==◌, ◌&&◌, ◌||◌, ℕ, Bool, false, IfOk, length, slice_index_or};
+ghost use Rattle.std.specs.Prelude.{◌≡◌, ◌<◌, ◌==◌, ◌&&◌, ◌||◌, ℕ, Bool, false, length, slice_index_or};
 ghost use Rattle.can_mac.specs.State.{MacState};
 ghost use Rattle.can_gates.specs.Circuit.{value, Makes};
 ghost use Rattle.can_gates_controller.specs.Whole.{HoldsAll, IsBitTime};
 ghost use Rattle.can_gates_controller.specs.Steps.{ControllerStep, asked};
+ghost use Rattle.can_gates_controller.specs.Listed.{register_list};
 ghost use Rattle.can_gates_controller.specs.Runs.{step_in, Shows};
 ghost use Rattle.can_gates_controller.specs.Stepped.{TakesReset, TakesStep, taken_at};
 
 use crate::laying::levels_of;
 use crate::legal::{is_legal, is_off};
-use crate::listing::list;
+use crate::listing::register_at;
 use crate::ports::{InputPorts, OutputPorts};
 use crate::registers::{BitTime, Offered, Registers};
 use crate::telling::told_frame;
 use crate::whole::bit_time;
-use can_gates::{Circuit, FALSE, Literal, literal_at};
+use can_gates::{Circuit, FALSE, Literal};
 use can_gates_mac::{Nibble, asking, is_passive};
-use std::alloc::{AllocError, Global};
 
 /// One more than the most own overload frames that can be asked for.
 const ABOVE_WISHES: u8 = 3;
@@ -27,24 +27,22 @@ const REGISTERS: usize = 277;
 /// A step: what the registers take, in their order, and what goes out.
 pub(crate) fn step(
     circuit: &mut Circuit,
-    alloc: Global,
     held: &Registers,
     inputs: &InputPorts,
-) -> Result<([Literal; 277], OutputPorts), AllocError>
-    ensures { IfOk result (λ r. (length r.0 ≡ 277) × Makes circuit.old circuit.new (λ v. TakesReset v inputs.now held.now r.0 × TakesStep v inputs.now r.1 held.now r.0)) }
+) -> ([Literal; 277], OutputPorts)
+    ensures places { length result.0 ≡ 277 }
+    ensures taken { Makes circuit.old circuit.new (λ v. TakesReset v inputs.now held.now result.0 × TakesStep v inputs.now result.1 held.now result.0) }
 {
-    let levels = levels_of(circuit, alloc, &inputs.frame)?;
+    let levels = levels_of(circuit, &inputs.frame);
     let offered = Offered {
         waits: inputs.waits,
         levels,
     };
     let wished = with_wish(circuit, held, inputs);
     let made = bit_time(circuit, &wished, &offered, inputs.bus);
-    let outputs = show(circuit, alloc, held, inputs, &wished, &made)?;
-    let before = list(alloc, held)?;
-    let behind = list(alloc, &made.next)?;
-    let taken = take(circuit, inputs, &before, &behind);
-    Ok((taken, outputs))
+    let outputs = show(circuit, held, inputs, &wished, &made);
+    let taken = take(circuit, inputs, held, &made.next);
+    (taken, outputs)
 }
 
 /// The registers, with the own overload frames that are asked for.
@@ -69,22 +67,21 @@ fn with_wish(circuit: &mut Circuit, held: &Registers, inputs: &InputPorts) -> Re
 /// What goes out, where these registers are held, and with own overload frames these; and this is the bit time, if one passes.
 fn show(
     circuit: &mut Circuit,
-    alloc: Global,
     held: &Registers,
     inputs: &InputPorts,
     wished: &Registers,
     made: &BitTime,
-) -> Result<OutputPorts, AllocError>
-    ensures { IfOk result (λ r. Makes circuit.old circuit.new (λ v. (m : MacState) (s : ControllerStep) → s ≡ step_in v inputs.now → HoldsAll v held.now m → HoldsAll v wished.now (asked s.wish m) → IsBitTime v made.now wished.now (asked s.wish m) s.waiting s.level → Shows v r m s)) }
+) -> OutputPorts
+    ensures { Makes circuit.old circuit.new (λ v. (m : MacState) (s : ControllerStep) → s ≡ step_in v inputs.now → HoldsAll v held.now m → HoldsAll v wished.now (asked s.wish m) → IsBitTime v made.now wished.now (asked s.wish m) s.waiting s.level → Shows v result m s) }
 {
     let counters = &held.controller.counters;
     let passes = circuit.and(inputs.enable, inputs.reset.opposite());
     let event = made.next.controller.wires.event;
     let told = Nibble::choose(circuit, passes, event, Nibble::of(0));
-    let frame = told_frame(circuit, alloc, wished)?;
+    let frame = told_frame(circuit, wished);
     let passive = is_passive(circuit, &counters.tec, &counters.rec);
     let legal = is_legal(circuit, held);
-    Ok(OutputPorts {
+    OutputPorts {
         drive: made.recessive,
         told,
         frame,
@@ -93,7 +90,7 @@ fn show(
         passive,
         off: is_off(counters),
         legal,
-    })
+    }
 }
 
 /// What the registers take: at a reset 0, but the first one whether the controller joins; else what a bit time makes, or where
@@ -101,11 +98,11 @@ fn show(
 fn take(
     circuit: &mut Circuit,
     inputs: &InputPorts,
-    held: &[Literal],
-    next: &[Literal],
+    held: &Registers,
+    next: &Registers,
 ) -> [Literal; 277]
     ensures places { length result ≡ 277 }
-    ensures taken { Makes circuit.old circuit.new (λ v. (p : ℕ) → p < 277 → value v (slice_index_or result p FALSE) ≡ taken_at (value v inputs.now.reset) (value v inputs.now.joins) (value v inputs.now.enable) p (value v (slice_index_or next.now p FALSE)) (value v (slice_index_or held.now p FALSE))) }
+    ensures taken { Makes circuit.old circuit.new (λ v. (p : ℕ) → p < 277 → value v (slice_index_or result p FALSE) ≡ taken_at (value v inputs.now.reset) (value v inputs.now.joins) (value v inputs.now.enable) p (value v (slice_index_or (register_list next.now) p FALSE)) (value v (slice_index_or (register_list held.now) p FALSE))) }
 {
     let passes = circuit.and(inputs.enable, inputs.reset.opposite());
     let rests = circuit.and(inputs.enable.opposite(), inputs.reset.opposite());
@@ -117,18 +114,18 @@ fn take(
 fn merge(
     circuit: &mut Circuit,
     passes: Literal,
-    next: &[Literal],
+    next: &Registers,
     rests: Literal,
-    held: &[Literal],
+    held: &Registers,
     joins: Literal,
 ) -> [Literal; 277]
     ensures places { length result ≡ 277 }
-    ensures merged { Makes circuit.old circuit.new (λ v. (p : ℕ) → p < 277 → value v (slice_index_or result p FALSE) ≡ (((value v passes && value v (slice_index_or next.now p FALSE)) || (value v rests && value v (slice_index_or held.now p FALSE))) || (p == 0 && value v joins))) }
+    ensures merged { Makes circuit.old circuit.new (λ v. (p : ℕ) → p < 277 → value v (slice_index_or result p FALSE) ≡ (((value v passes && value v (slice_index_or (register_list next.now) p FALSE)) || (value v rests && value v (slice_index_or (register_list held.now) p FALSE))) || (p == 0 && value v joins))) }
 {
     let mut all = [FALSE; REGISTERS];
     for place in 0..REGISTERS {
-        let new = circuit.and(passes, literal_at(next, place));
-        let old = circuit.and(rests, literal_at(held, place));
+        let new = circuit.and(passes, register_at(next, place));
+        let old = circuit.and(rests, register_at(held, place));
         let either = circuit.or(new, old);
         all[place] = circuit.or(either, at_first(place, joins));
     }

@@ -1,20 +1,9 @@
 -- Pieces that are written one behind another.
 use Rattle.std.proofs.Common.{◌≡◌, ℕ, List, ◌++◌, ◌∙◌, ap, append_assoc}
-use Rattle.std.specs.Prelude.{Result, Ok, Err, OnOk, is_ok, if◌then◌else◌}
 
 -- a piece before others
 pub joined : {A : Type 0} (old mid new a b : List A) → mid ≡ old ++ a → new ≡ mid ++ b → new ≡ old ++ (a ++ b)
 joined old mid new a b e1 e2 = e2 ∙ ap (λ s. s ++ b) e1 ∙ append_assoc old a b
-
--- the same where the last may fail
-pub before : (old a : List ℕ) {A E : Type 0} (r : Result A E) (mid new b : List ℕ) → mid ≡ old ++ a → OnOk r (new ≡ mid ++ b) → OnOk r (new ≡ old ++ (a ++ b))
-before old a (Ok x) mid new b e1 e2 = joined old mid new a b e1 e2
-before old a (Err e) mid new b e1 e2 = tt
-
--- the last piece, where it has been written
-pub last : (old a : List ℕ) {A E : Type 0} (r : Result A E) (new : List ℕ) → new ≡ (if is_ok r then old ++ a else old) → OnOk r (new ≡ old ++ a)
-last old a (Ok x) new e = e
-last old a (Err e) new e' = tt
 
 pub three_joined : (old one two new a b c : List ℕ) → one ≡ old ++ a → two ≡ one ++ b → new ≡ two ++ c → new ≡ old ++ (a ++ (b ++ c))
 three_joined old one two new a b c e1 e2 e3 = rw (e3, e2, e1) (append_assoc (old ++ a) b c ∙ append_assoc old a (b ++ c))

@@ -1,5 +1,5 @@
 -- What the moves read, and the numbers of a phase that they go to.
-use Rattle.std.specs.Prelude.{ℕ, ◌≡◌, ◌+◌, ◌-◌, ◌<◌, ◌≤◌, nat_lt, Bool, true, false, not, ◌&&◌, if◌then◌else◌, Option}
+use Rattle.std.specs.Prelude.{ℕ, ◌≡◌, ◌+◌, ◌<◌, ◌≤◌, nat_lt, Bool, false, not, ◌&&◌, if◌then◌else◌, Option}
 use Rattle.can_frame.specs.declared.level.Level.{Level}
 use Rattle.can_frame.specs.Levels.{is_recessive}
 use Rattle.can_frame.specs.Parts.{Parts}
@@ -57,9 +57,8 @@ pub record IsSensed (v : ℕ → Bool) (k : Senses) (s : Stance) (p : MacPhase) 
   pub held_back : value v k.held_back ≡ is_held_back s s.role
   pub pending : nibble v k.pending ≡ s.overloads.pending
   pub used : nibble v k.used ≡ s.overloads.used
+  pub few : s.overloads.pending ≤ 2
   pub asks : value v k.asks ≡ (nat_lt 0 s.overloads.pending && nat_lt s.overloads.used 2)
-  pub fewer : nibble v k.fewer ≡ s.overloads.pending - 1
-  pub more : nat_lt s.overloads.used 2 ≡ true → nibble v k.more ≡ s.overloads.used + 1
   pub waits : value v k.waits ≡ is_waiting waiting
   pub starts : value v k.starts ≡ (is_waiting waiting && not (is_held_back s s.role))
   pub recessive : value v k.recessive ≡ is_recessive x
@@ -77,10 +76,6 @@ pub record IsSensed (v : ℕ → Bool) (k : Senses) (s : Stance) (p : MacPhase) 
   pub run : nibble v k.run ≡ run_with p x
   pub run_below_6 : value v k.run_below_6 ≡ nat_lt (run_with p x) 6
   pub first : value v k.first ≡ (not (is_sender s.role) && is_first p)
-  pub flag : nibble v k.flag ≡ (if s.passive then 8 else 7)
-  pub error_cause : nibble v k.error_cause ≡ (if is_sender s.role then 3 else 1)
-  pub flag_bit_cause : nibble v k.flag_bit_cause ≡ (if is_sender s.role then 3 else 2)
-  pub form_kind : nibble v k.form_kind ≡ (if is_sender s.role then 4 else 7)
 
 -- in each assignment in which the senses are those of a controller of a stance in a phase, where a level is seen
 abbrev pub WhereSensed : Senses → ((ℕ → Bool) → Stance → MacPhase → Level → Type 0) → Type 0

@@ -1,5 +1,5 @@
 //! What moves end in: the leaves of can_mac/specs/Moves.antt. (Bosch CAN 2.0 part B, sections 3.2 and 8)
-ghost use Rattle.std.specs.Prelude.{◌≡◌, ◌+◌, ◌-◌, ◌<◌, ℕ, Bool, true, false, nat_lt, Option, Some, None};
+ghost use Rattle.std.specs.Prelude.{◌≡◌, ◌+◌, ◌-◌, ◌<◌, ◌≤◌, ℕ, Bool, true, false, nat_lt, if◌then◌else◌, Option, Some, None};
 ghost use Rattle.can_frame.specs.Levels.{is_recessive};
 ghost use Rattle.can_fault.specs.declared.cause.Cause.{Cause};
 ghost use Rattle.can_mac.specs.declared.event.ErrorKind.{ErrorKind};
@@ -7,7 +7,7 @@ ghost use Rattle.can_mac.specs.declared.phase.Role.{Role};
 ghost use Rattle.can_mac.specs.declared.phase.Role.TheVariants.{Receiver};
 ghost use Rattle.can_mac.specs.declared.phase.Phase.TheVariants.{Idle};
 ghost use Rattle.can_mac.specs.Codes.{kind_code};
-ghost use Rattle.can_mac.specs.Moves.{begins_frame, errs_by, errs, errs_in_flag, overload, goes};
+ghost use Rattle.can_mac.specs.Moves.{begins_frame, errs_by, errs, errs_in_flag, form_kind, overload, goes};
 ghost use Rattle.can_gates.specs.Circuit.{value};
 ghost use Rattle.can_gates_mac.specs.Nibbles.{nibble};
 ghost use Rattle.can_gates_mac.specs.Numbers.{numbers, is_sender, cause_number};
@@ -50,7 +50,7 @@ impl Senses {
         ensures { WhereSensed self.now (λ v s p x. (role : Role) (c : Option Cause) (e : ErrorKind) → value v sender ≡ is_sender role → nibble v cause ≡ cause_number c → nibble v kind ≡ kind_code e → shown v result ≡ numbers (errs_by c false (record s { role = role }) e)) }
     {
         Wires {
-            phase: self.flag,
+            phase: flag_of(self.passive),
             place: Nibble::of(0),
             last: self.passive,
             unacknowledged: FALSE,
@@ -67,14 +67,22 @@ impl Senses {
     pub(crate) fn errs(&self, kind: Nibble) -> Wires
         ensures { WhereSensed self.now (λ v s p x. (e : ErrorKind) → nibble v kind ≡ kind_code e → shown v result ≡ numbers (errs s e)) }
     {
-        self.errs_by(self.sender, self.error_cause, kind)
+        self.errs_by(self.sender, error_cause_of(self.sender), kind)
+    }
+
+    /// An error of fixed form in a frame.
+    pub(crate) fn errs_in_form(&self) -> Wires
+        ensures { WhereSensed self.now (λ v s p x. shown v result ≡ numbers (errs s (form_kind s.role))) }
+    {
+        self.errs(form_kind_of(self.sender))
     }
 
     /// A bit error in an own active error flag or overload flag.
     pub(crate) fn errs_in_flag(&self) -> Wires
         ensures { WhereSensed self.now (λ v s p x. shown v result ≡ numbers (errs_in_flag s)) }
     {
-        self.errs_by(self.sender, self.flag_bit_cause, Nibble::of(BIT_ERROR))
+        let cause = flag_bit_cause_of(self.sender);
+        self.errs_by(self.sender, cause, Nibble::of(BIT_ERROR))
     }
 
     /// A frame begins.
@@ -106,8 +114,8 @@ impl Senses {
             unacknowledged: FALSE,
             first: FALSE,
             sender: self.sender,
-            pending: self.fewer,
-            used: self.more,
+            pending: fewer_than(self.pending),
+            used: more_than(self.used),
             cause: Nibble::of(UNCOUNTED),
             event: Nibble::of(OVERLOAD),
         }
@@ -204,5 +212,77 @@ impl Senses {
             cause: Nibble::of(UNCOUNTED),
             event: Nibble::of(LOST),
         }
+    }
+}
+
+/// One less than at most two.
+fn fewer_than(pending: Nibble) -> Nibble
+    ensures { (v : ℕ → Bool) → v 0 ≡ false → nibble v pending ≤ 2 → nibble v result ≡ nibble v pending - 1 }
+{
+    Nibble {
+        ones: pending.twos,
+        twos: FALSE,
+        fours: FALSE,
+        eights: FALSE,
+    }
+}
+
+/// One more than at most one.
+fn more_than(used: Nibble) -> Nibble
+    ensures { (v : ℕ → Bool) → v 0 ≡ false → nat_lt (nibble v used) 2 ≡ true → nibble v result ≡ nibble v used + 1 }
+{
+    Nibble {
+        ones: used.ones.opposite(),
+        twos: used.ones,
+        fours: FALSE,
+        eights: FALSE,
+    }
+}
+
+/// The phase of an error flag that starts. (Bosch CAN 2.0 part B, section 3.2.3)
+fn flag_of(passive: Literal) -> Nibble
+    ensures { (v : ℕ → Bool) → v 0 ≡ false → nibble v result ≡ (if value v passive then 8 else 7) }
+{
+    Nibble {
+        ones: passive.opposite(),
+        twos: passive.opposite(),
+        fours: passive.opposite(),
+        eights: passive,
+    }
+}
+
+/// What an error in a frame or in a delimiter counts.
+fn error_cause_of(sender: Literal) -> Nibble
+    ensures { (v : ℕ → Bool) → v 0 ≡ false → nibble v result ≡ (if value v sender then 3 else 1) }
+{
+    Nibble {
+        ones: TRUE,
+        twos: sender,
+        fours: FALSE,
+        eights: FALSE,
+    }
+}
+
+/// What an error in an own flag counts.
+fn flag_bit_cause_of(sender: Literal) -> Nibble
+    ensures { (v : ℕ → Bool) → v 0 ≡ false → nibble v result ≡ (if value v sender then 3 else 2) }
+{
+    Nibble {
+        ones: sender,
+        twos: TRUE,
+        fours: FALSE,
+        eights: FALSE,
+    }
+}
+
+/// What is told of an error of fixed form.
+fn form_kind_of(sender: Literal) -> Nibble
+    ensures { (v : ℕ → Bool) → v 0 ≡ false → nibble v result ≡ (if value v sender then 4 else 7) }
+{
+    Nibble {
+        ones: sender.opposite(),
+        twos: sender.opposite(),
+        fours: TRUE,
+        eights: FALSE,
     }
 }

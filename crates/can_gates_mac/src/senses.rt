@@ -19,10 +19,6 @@ pub(crate) struct Senses {
     pub(crate) used: Nibble,
     /// Whether one is asked for and can be started.
     pub(crate) asks: Literal,
-    /// One asked for less.
-    pub(crate) fewer: Nibble,
-    /// One used more.
-    pub(crate) more: Nibble,
     /// Whether a frame waits.
     pub(crate) waits: Literal,
     /// Whether the controller sends it where a frame begins behind intermission.
@@ -47,14 +43,6 @@ pub(crate) struct Senses {
     pub(crate) run_below_6: Literal,
     /// Whether this is the first level behind an error flag, at a receiver.
     pub(crate) first: Literal,
-    /// The phase of an error flag that starts.
-    pub(crate) flag: Nibble,
-    /// What an error in a frame or in a delimiter counts.
-    pub(crate) error_cause: Nibble,
-    /// What an error in an own flag counts.
-    pub(crate) flag_bit_cause: Nibble,
-    /// What is told of an error of fixed form.
-    pub(crate) form_kind: Nibble,
 }
 
 /// How a place compares with the ends of phases, and the next one.

@@ -1,5 +1,5 @@
 //! How what the moves read is made.
-ghost use Rattle.std.specs.Prelude.{◌≡◌, ◌+◌, ◌-◌, ◌<◌, ◌≤◌, ℕ, Bool, true, false, not, nat_lt, ◌&&◌, if◌then◌else◌, Option};
+ghost use Rattle.std.specs.Prelude.{◌≡◌, ◌≤◌, ℕ, Bool, nat_lt, ◌&&◌, if◌then◌else◌, Option};
 ghost use Rattle.can_frame.specs.declared.level.Level.{Level};
 ghost use Rattle.can_frame.specs.Parts.{Parts};
 ghost use Rattle.can_mac.specs.declared.moves.Stance.{Stance};
@@ -11,7 +11,7 @@ ghost use Rattle.can_gates_mac.specs.Sensed.{IsNow, IsSensed, IsPlaced};
 use crate::nibble::Nibble;
 use crate::senses::{Places, Senses};
 use crate::wires::Now;
-use can_gates::{Circuit, FALSE, Literal, TRUE};
+use can_gates::{Circuit, Literal};
 
 /// What all moves read.
 pub(crate) fn sense(circuit: &mut Circuit, now: &Now) -> Senses
@@ -39,8 +39,6 @@ pub(crate) fn sense(circuit: &mut Circuit, now: &Now) -> Senses
         pending: now.pending,
         used: now.used,
         asks,
-        fewer: fewer_than(now.pending),
-        more: more_than(now.used),
         waits: now.waits,
         starts,
         recessive: now.seen,
@@ -53,10 +51,6 @@ pub(crate) fn sense(circuit: &mut Circuit, now: &Now) -> Senses
         run,
         run_below_6,
         first,
-        flag: flag_of(now.passive),
-        error_cause: error_cause_of(now.sender),
-        flag_bit_cause: flag_bit_cause_of(now.sender),
-        form_kind: form_kind_of(now.sender),
     }
 }
 
@@ -94,76 +88,4 @@ fn run_behind(circuit: &mut Circuit, last: Literal, seen: Literal, next: Nibble)
 {
     let differs = circuit.xor(last, seen);
     Nibble::choose(circuit, differs, Nibble::of(1), next)
-}
-
-/// One less than at most two.
-fn fewer_than(pending: Nibble) -> Nibble
-    ensures { (v : ℕ → Bool) → v 0 ≡ false → nibble v pending ≤ 2 → nibble v result ≡ nibble v pending - 1 }
-{
-    Nibble {
-        ones: pending.twos,
-        twos: FALSE,
-        fours: FALSE,
-        eights: FALSE,
-    }
-}
-
-/// One more than at most one.
-fn more_than(used: Nibble) -> Nibble
-    ensures { (v : ℕ → Bool) → v 0 ≡ false → nat_lt (nibble v used) 2 ≡ true → nibble v result ≡ nibble v used + 1 }
-{
-    Nibble {
-        ones: used.ones.opposite(),
-        twos: used.ones,
-        fours: FALSE,
-        eights: FALSE,
-    }
-}
-
-/// The phase of an error flag that starts. (Bosch CAN 2.0 part B, section 3.2.3)
-fn flag_of(passive: Literal) -> Nibble
-    ensures { (v : ℕ → Bool) → v 0 ≡ false → nibble v result ≡ (if value v passive then 8 else 7) }
-{
-    Nibble {
-        ones: passive.opposite(),
-        twos: passive.opposite(),
-        fours: passive.opposite(),
-        eights: passive,
-    }
-}
-
-/// What an error in a frame or in a delimiter counts.
-fn error_cause_of(sender: Literal) -> Nibble
-    ensures { (v : ℕ → Bool) → v 0 ≡ false → nibble v result ≡ (if value v sender then 3 else 1) }
-{
-    Nibble {
-        ones: TRUE,
-        twos: sender,
-        fours: FALSE,
-        eights: FALSE,
-    }
-}
-
-/// What an error in an own flag counts.
-fn flag_bit_cause_of(sender: Literal) -> Nibble
-    ensures { (v : ℕ → Bool) → v 0 ≡ false → nibble v result ≡ (if value v sender then 3 else 2) }
-{
-    Nibble {
-        ones: sender,
-        twos: TRUE,
-        fours: FALSE,
-        eights: FALSE,
-    }
-}
-
-/// What is told of an error of fixed form.
-fn form_kind_of(sender: Literal) -> Nibble
-    ensures { (v : ℕ → Bool) → v 0 ≡ false → nibble v result ≡ (if value v sender then 4 else 7) }
-{
-    Nibble {
-        ones: sender.opposite(),
-        twos: sender.opposite(),
-        fours: TRUE,
-        eights: FALSE,
-    }
 }

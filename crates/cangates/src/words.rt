@@ -4,7 +4,7 @@ ghost use Rattle.can_program.specs.Words.{texts_of};
 ghost use Rattle.cangates.specs.Words.{asked_by, asked_word, asked_words};
 
 /// The form of a file.
-#[derive(Clone, Copy, Debug, PartialEq, Eq)]
+#[derive(Clone, Copy)]
 pub enum Form {
     /// A module of Verilog-2001.
     Verilog,
@@ -15,7 +15,7 @@ pub enum Form {
 }
 
 /// What is asked for.
-#[derive(Clone, Copy, Debug, PartialEq, Eq)]
+#[derive(Clone, Copy)]
 pub enum Asked {
     /// The circuit, in this form.
     File(Form),

@@ -26,7 +26,7 @@ pub(crate) fn crc_delimiter(circuit: &mut Circuit, senses: &Senses) -> Wires
 {
     let zero = Nibble::of(0);
     let on = senses.goes(ACK_SLOT, zero, UNCOUNTED, UNTOLD);
-    let wrong = senses.errs(senses.form_kind);
+    let wrong = senses.errs_in_form();
     let rows = [Row(TRUE, senses.recessive, on)];
     first_row(circuit, &rows, wrong)
 }
@@ -60,7 +60,7 @@ pub(crate) fn ack_delimiter(circuit: &mut Circuit, senses: &Senses) -> Wires
 {
     let zero = Nibble::of(0);
     let crc = Nibble::of(CRC_ERROR);
-    let wrong = senses.errs(senses.form_kind);
+    let wrong = senses.errs_in_form();
     let differs = senses.errs(crc);
     let on = senses.goes(END_OF_FRAME, zero, UNCOUNTED, UNTOLD);
     let rows = [

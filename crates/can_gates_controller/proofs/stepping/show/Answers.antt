@@ -9,11 +9,11 @@ use Rattle.can_gates_controller.proofs.stepping.show.Goals as goal
 
 pub returns : goal.returns
 returns c = (
-  c.is_legal-legal.ensures.0 ∙ c.is_passive-passive.ensures.0 ∙ c.in_ok-frame.ensures.0 ∙ c.choose-told.ensures.0 ∙ c.and-passes.ensures.0,
+  c.is_legal-legal.ensures.0 ∙ c.is_passive-passive.ensures.0 ∙ c.told_frame-frame.ensures.0 ∙ c.choose-told.ensures.0 ∙ c.and-passes.ensures.0,
   λ v keeps.
       let legal = c.is_legal-legal.ensures.1 v keeps in
       let passive = c.is_passive-passive.ensures.1 v legal.0 in
-      let frame = c.in_ok-frame.ensures.1 v passive.0 in
+      let frame = c.told_frame-frame.ensures.1 v passive.0 in
       let told = c.choose-told.ensures.1 v frame.0 in
       let passes = c.and-passes.ensures.1 v told.0 in
       let zero_is = zero-kept v c.args.circuit.now passes.0 in (

@@ -1,27 +1,40 @@
-use Rattle.std.proofs.Common.{◌≡◌, ◌++◌, ◌∙◌, length, refl, ap, arith, drop, length-append}
+use Rattle.std.proofs.Common.{◌≡◌, ◌∙◌, ◌<◌, length, get_or, refl, arith}
+use Rattle.std.proofs.lemmas.List.{length-set}
+use Rattle.std.specs.Prelude.{if◌then◌else◌}
 use Rattle.can_gates.specs.Circuit.{value}
-use Rattle.can_gates.proofs.Constants.{zero-kept}
-use Rattle.can_gates_controller.specs.Laying.{turned_word}
-use Rattle.can_gates_controller.proofs.TurnedLevels.{length-turned}
+use Rattle.can_gates.proofs.Constants.{never, zero-kept}
+use Rattle.can_gates_controller.specs.Laying.{long_list, short_list}
+use Rattle.can_gates_controller.proofs.FrontPlaces.{written_place}
+use Rattle.can_gates_controller.proofs.Told.{length-long, length-short}
 use Rattle.can_gates_controller.proofs.WordParts.{number_chosen}
 use Rattle.can_gates_controller.proofs.telling.identifier_of.Goals as goal
 
-pub returns : goal.returns
-returns c =
-    let levels = c.args.levels.now in
-    let upper = turned_word 11 (drop 1 levels) in
-    let lower = turned_word 18 (drop 14 levels) in
-    let short : c.push_turned.new.out.items ≡ upper = c.in_ok-push_turned.ensures ∙ ap (λ t. t ++ upper) c.new-short.ensures.items in
-    let first : c.push_turned-2.new.out.items ≡ lower = c.in_ok-push_turned-2.ensures ∙ ap (λ t. t ++ lower) c.new-long.ensures.items in
-    let long : c.extend_from_slice.new.self.items ≡ lower ++ upper = c.in_ok-extend_from_slice.ensures.items ∙ rw (c.deref.ensures.value, short, first) refl in
-    let few : length upper ≡ 11 = length-turned 11 (drop 1 levels) in
-    let many : length (lower ++ upper) ≡ 29 = length-append lower upper ∙ rw (length-turned 18 (drop 14 levels), few) refl in (
-      c.choose_levels-made.ensures.places,
+pub loop-place-preserved : goal.loop-place-preserved
+loop-place-preserved c =
+    let l = c.loop-place in
+    let within : l.place < length l.word = omega (arith, c.loop-place-test.true, l.auto.place-end, l.invariant.0) in
+    let levels = c.args.levels.now in (
+      length-set l.word l.place c.ite.result ∙ l.invariant.0,
       (
-        c.choose_levels-made.ensures.levels.0,
+        c.ite.ensures.0 ∙ l.invariant.1.0,
         λ v keeps.
-            let made = c.choose_levels-made.ensures.levels.1 v keeps in
-            let zero_is = zero-kept v c.args.circuit.now made.0 in
-            (made.0, number_chosen v zero_is (value v c.args.extended) 29 c.choose_levels-made.result (lower ++ upper) upper (omega (arith, c.choose_levels-made.ensures.places)) (omega (arith, many)) (omega (arith, few)) (λ p h. made.1 p h ∙ rw (c.deref-2.ensures.value, c.deref-3.ensures.value, long, short) refl)),
+            let bit = c.ite.ensures.1 v keeps in
+            let before = l.invariant.1.1 v bit.0 in
+            let is = bit.1 ∙ rw (c.long_bit-long.ensures, c.short_bit-short.ensures) refl in
+            (before.0, λ p h. written_place v (λ q. if value v c.args.extended then value v (get_or (long_list levels) q never) else value v (get_or (short_list levels) q never)) l.word c.ite.result l.place p within is before.1 h),
       ),
+    )
+
+pub returns-clause-places : goal.returns-clause-places
+returns-clause-places c = c.loop-place.invariant.0
+
+pub returns-clause-number : goal.returns-clause-number
+returns-clause-number c =
+    let l = c.loop-place in
+    let levels = c.args.levels.now in
+    let e : l.place ≡ 29 = omega (arith, c.loop-place-test.false, l.auto.place-end) in (
+      l.invariant.1.0,
+      λ v keeps.
+          let whole = l.invariant.1.1 v keeps in
+          (whole.0, number_chosen v (zero-kept v c.args.circuit.now whole.0) (value v c.args.extended) 29 l.word (long_list levels) (short_list levels) (omega (arith, l.invariant.0)) (omega (arith, length-long levels)) (omega (arith, length-short levels)) (λ p h. whole.1 p (rw e h))),
     )

@@ -31,9 +31,8 @@ returns c = (
               held_back = held;
               pending = now.pending;
               used = now.used;
+              few = now.few;
               asks = rw (now.pending, now.used) at (asks.1 (rw now.pending now.few) (rw now.used now.few_used));
-              fewer = rw now.pending at (c.fewer_than.ensures v zero_is (rw now.pending now.few));
-              more = λ below. rw now.used at (c.more_than.ensures v zero_is (rw now.used below));
               waits = now.waits;
               starts = rw (now.waits, c.opposite-free.ensures v, held) at starts.1;
               recessive = now.seen;
@@ -51,10 +50,6 @@ returns c = (
               run = so_long;
               run_below_6 = rw so_long at run_below_6.1;
               first = rw (c.opposite-receiver.ensures v, now.sender, now.first) at first.1;
-              flag = rw now.passive at (c.flag_of.ensures v zero_is);
-              error_cause = rw now.sender at (c.error_cause_of.ensures v zero_is);
-              flag_bit_cause = rw now.sender at (c.flag_bit_cause_of.ensures v zero_is);
-              form_kind = rw now.sender at (c.form_kind_of.ensures v zero_is);
             },
       ),
 )

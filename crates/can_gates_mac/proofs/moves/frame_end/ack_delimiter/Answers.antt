@@ -1,8 +1,6 @@
 use Rattle.std.proofs.Common.{◌∙◌}
 use Rattle.std.proofs.Common.{refl}
 use Rattle.can_mac.specs.declared.event.ErrorKind.TheVariants.{Crc}
-use Rattle.can_mac.specs.Moves.{form_kind}
-use Rattle.can_gates_mac.proofs.Roles.{form_kind_is}
 use Rattle.can_gates.proofs.Constants.{value-always}
 use Rattle.can_gates_mac.proofs.PhaseMoves.{ack_delimiter_rows}
 use Rattle.can_gates_mac.proofs.moves.frame_end.ack_delimiter.Goals as goal
@@ -16,6 +14,6 @@ returns c = (
         λ r s waiting x k.
             let zero = c.of-zero.ensures v k.never in
             let crc = c.of-crc.ensures v k.never in
-            made.1 ∙ rw (value-always v k.never, k.dominant, k.refuses, k.agrees r refl) (ack_delimiter_rows s.passive s.role s.overloads r x _ _ _ (c.errs-wrong.ensures v s _ waiting x k (form_kind s.role) (k.form_kind ∙ form_kind_is s.role)) (c.errs-differs.ensures v s _ waiting x k Crc crc) (c.goes-on.ensures v s _ waiting x k _ zero)),
+            made.1 ∙ rw (value-always v k.never, k.dominant, k.refuses, k.agrees r refl) (ack_delimiter_rows s.passive s.role s.overloads r x _ _ _ (c.errs_in_form-wrong.ensures v s _ waiting x k) (c.errs-differs.ensures v s _ waiting x k Crc crc) (c.goes-on.ensures v s _ waiting x k _ zero)),
       ),
 )

@@ -1,6 +1,4 @@
 use Rattle.std.proofs.Common.{◌∙◌}
-use Rattle.can_mac.specs.Moves.{form_kind}
-use Rattle.can_gates_mac.proofs.Roles.{form_kind_is}
 use Rattle.can_gates.proofs.Constants.{value-always}
 use Rattle.can_gates_mac.proofs.PhaseMoves.{crc_delimiter_rows}
 use Rattle.can_gates_mac.proofs.moves.frame_end.crc_delimiter.Goals as goal
@@ -13,6 +11,6 @@ returns c = (
         made.0,
         λ r s waiting x k.
             let zero = c.of-zero.ensures v k.never in
-            made.1 ∙ rw (value-always v k.never, k.recessive) (crc_delimiter_rows s r x _ _ (c.goes-on.ensures v s _ waiting x k _ zero) (c.errs-wrong.ensures v s _ waiting x k (form_kind s.role) (k.form_kind ∙ form_kind_is s.role))),
+            made.1 ∙ rw (value-always v k.never, k.recessive) (crc_delimiter_rows s r x _ _ (c.goes-on.ensures v s _ waiting x k _ zero) (c.errs_in_form-wrong.ensures v s _ waiting x k)),
       ),
 )

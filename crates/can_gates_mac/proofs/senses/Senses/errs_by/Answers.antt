@@ -28,4 +28,4 @@ first_is false = refl
 pub returns : goal.returns
 returns c = λ v s p waiting x k role cause kind sender counts tells.
     let never = value-never v k.never in
-    same_numbers v _ _ (k.flag ∙ phase_of s.passive) (c.of.ensures v k.never ∙ place_of s.passive) (k.passive ∙ last_of s.passive) (never ∙ unacknowledged_is s.passive) (never ∙ first_is s.passive) sender k.pending k.used counts tells
+    same_numbers v _ _ (rw k.passive at (c.flag_of.ensures v k.never) ∙ phase_of s.passive) (c.of.ensures v k.never ∙ place_of s.passive) (k.passive ∙ last_of s.passive) (never ∙ unacknowledged_is s.passive) (never ∙ first_is s.passive) sender k.pending k.used counts tells

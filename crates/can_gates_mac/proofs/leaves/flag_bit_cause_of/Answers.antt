@@ -1,0 +1,10 @@
+use Rattle.std.proofs.Common.{refl, ◌∙◌}
+use Rattle.can_gates.specs.Circuit.{value}
+use Rattle.can_gates.proofs.Constants.{value-never, value-always}
+use Rattle.can_gates_mac.proofs.NibbleBits.{nibble_is, flag_bit_cause_bits}
+use Rattle.can_gates_mac.proofs.leaves.flag_bit_cause_of.Goals as goal
+
+pub returns : goal.returns
+returns c = λ v zero_is.
+    let no = value-never v zero_is in
+    nibble_is v _ _ _ _ _ refl (value-always v zero_is) no no ∙ flag_bit_cause_bits (value v c.args.sender)
