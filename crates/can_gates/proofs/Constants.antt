@@ -4,15 +4,8 @@ use Rattle.std.proofs.lemmas.Bool.{true≢false, false≢true}
 use mathlib.Core.Bool.{beq}
 use Rattle.can_gates.specs.declared.literal.Literal.{Literal}
 use Rattle.can_gates.specs.declared.circuit.Gate.{Gate}
-use Rattle.can_gates.specs.Circuit.{CircuitParts, value, Keeps, KeepsGates}
+use Rattle.can_gates.specs.Circuit.{CircuitParts, value, Keeps, KeepsGates, never, always}
 use Rattle.can_gates.proofs.Bools.{and_self, and_opposite}
-
--- the literal that is never true, and the one that always is
-abbrev pub never : Literal
-never = record { signal = 0; negated = false }
-
-abbrev pub always : Literal
-always = record { signal = 0; negated = true }
 
 zero-gates : (v : ℕ → Bool) (gates : List Gate) → KeepsGates v gates → v 0 ≡ false
 zero-gates v [] keeps = keeps

@@ -2,9 +2,8 @@
 use Rattle.std.proofs.Common.{◌≡◌, ℕ, suc, ◌+◌, ◌*◌, ◌^◌, ◌<◌, ◌⊎◌, inl, inr, Bool, true, false, not, ◌&&◌, cond, eqb, ltb, List, take, get_or, sym, ◌∙◌, arith}
 use Rattle.std.proofs.lemmas.Bool.{cases_eq, eq-eqb, ne_eqb}
 use Rattle.can_gates.specs.declared.literal.Literal.{Literal}
-use Rattle.can_gates.specs.Circuit.{value, differ}
+use Rattle.can_gates.specs.Circuit.{value, differ, never}
 use Rattle.can_gates.specs.Words.{number, bit}
-use Rattle.can_gates.proofs.Constants.{never}
 use Rattle.can_gates.proofs.WordNumbers.{number-take, number-take-lt}
 
 -- the highest place decides

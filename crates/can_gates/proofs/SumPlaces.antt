@@ -1,9 +1,8 @@
 -- One place more of a sum, and sums that stop.
 use Rattle.std.proofs.Common.{◌≡◌, ℕ, suc, ◌+◌, ◌-◌, ◌*◌, ◌^◌, ◌<◌, min, Bool, true, false, cond, List, [], ◌∷◌, ◌++◌, length, take, get_or, arith, pow-suc}
 use Rattle.can_gates.specs.declared.literal.Literal.{Literal}
-use Rattle.can_gates.specs.Circuit.{value, differ}
+use Rattle.can_gates.specs.Circuit.{value, differ, never}
 use Rattle.can_gates.specs.Words.{number, bit}
-use Rattle.can_gates.proofs.Constants.{never}
 use Rattle.can_gates.proofs.WordNumbers.{number-push, number-take}
 
 -- a full adder, at any weight

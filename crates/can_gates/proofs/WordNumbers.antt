@@ -2,9 +2,9 @@
 use Rattle.std.proofs.Common.{◌≡◌, ℕ, zero, suc, ◌+◌, ◌*◌, ◌^◌, ◌<◌, Bool, true, false, List, [], ◌∷◌, ◌++◌, length, take, get_or, refl, ◌∙◌, arith, pow-suc}
 use Rattle.std.proofs.lemmas.Nat.{pow_pos}
 use Rattle.can_gates.specs.declared.literal.Literal.{Literal}
-use Rattle.can_gates.specs.Circuit.{value}
+use Rattle.can_gates.specs.Circuit.{value, never}
 use Rattle.can_gates.specs.Words.{number, bit}
-use Rattle.can_gates.proofs.Constants.{never, value-never}
+use Rattle.can_gates.proofs.Constants.{value-never}
 
 twice : (b n x p y : ℕ) → x ≡ n + p * y → b + 2 * x ≡ (b + 2 * n) + (p * 2) * y
 twice b n x p y e = rw e (grind arith)

@@ -4,9 +4,8 @@ use Rattle.std.proofs.lemmas.Nat.{pow_pos, mod_low}
 use Rattle.std.proofs.lemmas.Grind.{take-set_at}
 use Rattle.std.proofs.lemmas.List.{length-take-le}
 use Rattle.can_gates.specs.declared.literal.Literal.{Literal}
-use Rattle.can_gates.specs.Circuit.{value}
+use Rattle.can_gates.specs.Circuit.{value, never}
 use Rattle.can_gates.specs.Words.{number, bit}
-use Rattle.can_gates.proofs.Constants.{never}
 use Rattle.can_gates.proofs.WordNumbers.{number-push, number-take, number-lt}
 
 -- a word with one place written

@@ -2,7 +2,7 @@
 -- signal is the and of the gate's two sides: what a line of an AIGER file says, or `assign n = a & b;` of Verilog. To believe
 -- is that the tools that read such files mean this by them. A circuit that lacks a gate, as there was no memory for it, means
 -- nothing: no assignment keeps it.
-use Rattle.std.specs.Prelude.{ℕ, ◌≡◌, Bool, true, false, not, ◌&&◌, if◌then◌else◌, List, [], ◌∷◌}
+use Rattle.std.specs.Prelude.{ℕ, ◌≡◌, Bool, true, false, not, ◌&&◌, if◌then◌else◌, List, [], ◌∷◌, slice_index_or}
 use Rattle.can_gates.specs.declared.literal.Literal.{Literal}
 use Rattle.can_gates.specs.declared.circuit.Gate.{Gate}
 
@@ -17,6 +17,17 @@ pub record CircuitParts : Type 0 where
 -- a literal's value: its signal's, or the other one
 unfoldable pub value : (ℕ → Bool) → Literal → Bool
 value v l = if l.negated then not (v l.signal) else v l.signal
+
+-- the literal that is never true, and the one that always is, in an assignment that keeps a circuit
+abbrev pub never : Literal
+never = record { signal = 0; negated = false }
+
+abbrev pub always : Literal
+always = record { signal = 0; negated = true }
+
+-- a word's value at a place; behind its end it is false
+abbrev pub value_at : (ℕ → Bool) → List Literal → ℕ → Bool
+value_at v word p = value v (slice_index_or word p never)
 
 -- signal 0 is false, and each gate's signal is the and of its two sides
 abbrev pub KeepsGates : (ℕ → Bool) → List Gate → Type 0

@@ -8,4 +8,5 @@ use Rattle.can_gates.specs.Aiger.{literal_code}
 abbrev pub IsOrdered : ℕ → ℕ → List Gate → Type 0
 IsOrdered inputs highest [] = highest ≡ inputs
 IsOrdered inputs highest (g ∷ gates) =
-    (g.signal ≡ highest) × (g.left.signal < g.signal) × (g.right.signal < g.signal) × (below : ℕ) × (g.signal ≡ below + 1) × IsOrdered inputs below gates × (literal_code g.right ≤ literal_code g.left)
+    (g.signal ≡ highest) × (g.left.signal < g.signal) × (g.right.signal < g.signal) ×
+    (below : ℕ) × (g.signal ≡ below + 1) × IsOrdered inputs below gates × (literal_code g.right ≤ literal_code g.left)

@@ -9,9 +9,9 @@ use Rattle.can_frame.specs.declared.level.Level.TheVariants.{Dominant}
 use Rattle.can_frame.specs.Levels.{bits_of}
 use Rattle.can_frame.specs.Parts.{IsFrame, byte_count}
 use Rattle.can_gates.specs.declared.literal.Literal.{Literal}
-use Rattle.can_gates.specs.Circuit.{value}
+use Rattle.can_gates.specs.Circuit.{value, never}
 use Rattle.can_gates.specs.Words.{number}
-use Rattle.can_gates.proofs.Constants.{never, value-never}
+use Rattle.can_gates.proofs.Constants.{value-never}
 use Rattle.can_gates.proofs.WordNumbers.{number-lt, number-take-lt}
 use Rattle.can_gates_mac.specs.Nibbles.{nibble}
 use Rattle.can_gates_mac.specs.declared.nibble.Nibble.{Nibble}

@@ -12,9 +12,8 @@ use Rattle.can_wire.specs.Stuffing.{run_after}
 use Rattle.can_wire.proofs.LayoutPlaces.{level_at-append, level_at-behind}
 use Rattle.can_code.specs.Front.{FrontParts, heard_level}
 use Rattle.can_gates.specs.declared.literal.Literal.{Literal}
-use Rattle.can_gates.specs.Circuit.{value}
+use Rattle.can_gates.specs.Circuit.{value, never}
 use Rattle.can_gates.specs.Words.{bit}
-use Rattle.can_gates.proofs.Constants.{never}
 
 or_false : (b : Bool) → (b || false) ≡ b
 or_false true = refl

@@ -13,9 +13,9 @@ use Rattle.can_wire.specs.Wire.{head}
 use Rattle.can_wire.specs.Layout.{level_at}
 use Rattle.can_wire.proofs.LayoutPlaces.{level_at-dominant}
 use Rattle.can_gates.specs.declared.literal.Literal.{Literal}
-use Rattle.can_gates.specs.Circuit.{value}
+use Rattle.can_gates.specs.Circuit.{value, never, always}
 use Rattle.can_gates.specs.Words.{number}
-use Rattle.can_gates.proofs.Constants.{never, always, value-never, value-always}
+use Rattle.can_gates.proofs.Constants.{value-never, value-always}
 use Rattle.can_gates.proofs.WordNumbers.{number-take-lt}
 use Rattle.can_gates_mac.specs.declared.nibble.Nibble.{Nibble}
 use Rattle.can_gates_mac.specs.Nibbles.{nibble}

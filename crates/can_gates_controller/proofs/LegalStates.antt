@@ -16,8 +16,8 @@ use Rattle.can_mac.specs.declared.phase.Role.{Role}
 use Rattle.can_mac.specs.declared.phase.Phase.TheVariants.{Joining, Idle, StuffedPart, CrcDelimiter, AckSlot, AckDelimiter, EndOfFrame, ErrorFlag, PassiveFlag, OverloadFlag, AfterFlag, Delimiter, Intermission, Suspend, BusOff}
 use Rattle.can_mac.specs.State.{MacPhase, IsOpen, IsPhase, is_off_phase}
 use Rattle.can_gates.specs.declared.literal.Literal.{Literal}
-use Rattle.can_gates.specs.Circuit.{value, differ}
-use Rattle.can_gates.proofs.Constants.{never, always, value-never, value-always}
+use Rattle.can_gates.specs.Circuit.{value, differ, never, always}
+use Rattle.can_gates.proofs.Constants.{value-never, value-always}
 use Rattle.can_gates_mac.specs.Numbers.{phase_number, place_number, last_recessive, unacknowledged_of, is_first, is_sender, reading_in}
 use Rattle.can_gates_controller.specs.Whole.{IsSettled}
 use Rattle.can_gates_controller.specs.Following.{is_part, is_behind_part}

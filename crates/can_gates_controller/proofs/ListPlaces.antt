@@ -1,8 +1,8 @@
 -- The places of lists that stand behind one another.
+use Rattle.can_gates.specs.Circuit.{never}
 use Rattle.std.proofs.Common.{◌≡◌, ℕ, ◌-◌, ◌<◌, ◌≤◌, List, [], ◌∷◌, ◌++◌, length, get_or, refl, sym, ◌∙◌, ap, arith, length-append}
 use Rattle.std.proofs.lemmas.List.{get_or_append_left, get_or-append_right}
 use Rattle.can_gates.specs.declared.literal.Literal.{Literal}
-use Rattle.can_gates.proofs.Constants.{never}
 use Rattle.can_gates_mac.specs.declared.registers.Counters.{Counters}
 use Rattle.can_gates_controller.specs.declared.heard.Heard.{Heard}
 use Rattle.can_gates_controller.specs.declared.registers.Registers.{Registers}

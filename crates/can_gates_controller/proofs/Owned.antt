@@ -10,8 +10,7 @@ use Rattle.can_mac.specs.declared.phase.Role.TheVariants.{Sender}
 use Rattle.can_mac.specs.declared.phase.Phase.TheVariants.{StuffedPart, CrcDelimiter, AckSlot, AckDelimiter, EndOfFrame}
 use Rattle.can_mac.specs.State.{MacPhase, MacState, IsMac, IsPhase, IsRole}
 use Rattle.can_gates.specs.declared.literal.Literal.{Literal}
-use Rattle.can_gates.specs.Circuit.{value}
-use Rattle.can_gates.proofs.Constants.{never}
+use Rattle.can_gates.specs.Circuit.{value, never}
 use Rattle.can_gates_mac.specs.declared.registers.Controller.{Controller}
 use Rattle.can_gates_mac.specs.Nibbles.{nibble}
 use Rattle.can_gates_mac.specs.Numbers.{Numbers, event_number}

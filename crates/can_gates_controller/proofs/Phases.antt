@@ -16,8 +16,8 @@ use Rattle.can_mac.specs.declared.phase.Role.{Role}
 use Rattle.can_mac.specs.declared.phase.Phase.TheVariants.{StuffedPart, CrcDelimiter, AckSlot, AckDelimiter, EndOfFrame}
 use Rattle.can_mac.specs.State.{MacPhase, IsOpen, IsPhase}
 use Rattle.can_mac.specs.Moves.{reading_of, ends_part}
-use Rattle.can_gates.specs.Circuit.{value}
-use Rattle.can_gates.proofs.Constants.{never, always, value-never, value-always}
+use Rattle.can_gates.specs.Circuit.{value, never, always}
+use Rattle.can_gates.proofs.Constants.{value-never, value-always}
 use Rattle.can_gates_mac.specs.Numbers.{phase_number, reading_in}
 use Rattle.can_gates_controller.specs.declared.heard.Heard.{Heard}
 use Rattle.can_gates_controller.specs.declared.following.Within.{Within}

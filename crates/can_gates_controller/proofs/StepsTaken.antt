@@ -9,9 +9,8 @@ use Rattle.can_mac.specs.State.{MacState, idle, joining}
 use Rattle.can_mac.specs.Machine.{mac_drives, holding}
 use Rattle.can_mac.proofs.Kept.{holding_kept}
 use Rattle.can_gates.specs.declared.literal.Literal.{Literal}
-use Rattle.can_gates.specs.Circuit.{value}
+use Rattle.can_gates.specs.Circuit.{value, never}
 use Rattle.can_gates.specs.Words.{number}
-use Rattle.can_gates.proofs.Constants.{never}
 use Rattle.can_gates_mac.specs.declared.nibble.Nibble.{Nibble}
 use Rattle.can_gates_mac.specs.declared.registers.Controller.{Controller}
 use Rattle.can_gates_mac.specs.Nibbles.{nibble}

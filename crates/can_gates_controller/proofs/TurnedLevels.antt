@@ -10,9 +10,9 @@ use Rattle.can_frame.specs.Levels.{is_recessive, level_from, level_of, bits_of, 
 use Rattle.can_frame.proofs.LevelLemmas.{bits_of-low, number_from-append}
 use Rattle.can_wire.specs.Layout.{level_at, filled, bytes_from}
 use Rattle.can_gates.specs.declared.literal.Literal.{Literal}
-use Rattle.can_gates.specs.Circuit.{value}
+use Rattle.can_gates.specs.Circuit.{value, never}
 use Rattle.can_gates.specs.Words.{number, bit}
-use Rattle.can_gates.proofs.Constants.{never, value-never}
+use Rattle.can_gates.proofs.Constants.{value-never}
 use Rattle.can_gates.proofs.WordNumbers.{number-take, number-take-lt}
 use Rattle.can_gates_controller.specs.Fields.{bytes_in}
 use Rattle.can_gates_controller.specs.Laying.{turned_word, turned_bytes}

@@ -12,7 +12,7 @@ use Rattle.can_mac.specs.declared.phase.Role.TheVariants.{Receiver, Sender}
 use Rattle.can_mac.specs.declared.phase.Phase.TheVariants.{StuffedPart, CrcDelimiter, AckSlot, AckDelimiter, EndOfFrame}
 use Rattle.can_mac.specs.State.{MacPhase}
 use Rattle.can_mac.specs.Moves.{reading_of, ends_part}
-use Rattle.can_gates.specs.Circuit.{value}
+use Rattle.can_gates.specs.Circuit.{value, value_at}
 use Rattle.can_gates.specs.Words.{number}
 use Rattle.can_gates_mac.specs.Nibbles.{nibble}
 use Rattle.can_gates_mac.specs.Numbers.{reading_in}
@@ -92,8 +92,8 @@ pub record ShowsWithin (v : ℕ → Bool) (k : Within) (p : MacPhase) : Type 0 w
 
 -- the one front's registers, or the other's
 pub record IsEither (v : ℕ → Bool) (k : Heard) (test : Bool) (a b : Heard) : Type 0 where
-  pub levels : (p : ℕ) → p < 103 → value v (slice_index_or k.levels p (record { signal = 0; negated = false })) ≡ (if test then value v (slice_index_or a.levels p (record { signal = 0; negated = false })) else value v (slice_index_or b.levels p (record { signal = 0; negated = false })))
+  pub levels : (p : ℕ) → p < 103 → value_at v k.levels p ≡ (if test then value_at v a.levels p else value_at v b.levels p)
   pub count : number v k.count ≡ (if test then number v a.count else number v b.count)
   pub last : value v k.last ≡ (if test then value v a.last else value v b.last)
   pub run : nibble v k.run ≡ (if test then nibble v a.run else nibble v b.run)
-  pub check : (p : ℕ) → p < 15 → value v (slice_index_or k.check p (record { signal = 0; negated = false })) ≡ (if test then value v (slice_index_or a.check p (record { signal = 0; negated = false })) else value v (slice_index_or b.check p (record { signal = 0; negated = false })))
+  pub check : (p : ℕ) → p < 15 → value_at v k.check p ≡ (if test then value_at v a.check p else value_at v b.check p)

@@ -10,7 +10,7 @@ use Rattle.can_code.specs.Sending.{sent_level}
 use Rattle.can_mac.specs.declared.phase.Role.{Role}
 use Rattle.can_mac.specs.declared.phase.Role.TheVariants.{Sender}
 use Rattle.can_gates.specs.declared.literal.Literal.{Literal}
-use Rattle.can_gates.specs.Circuit.{value}
+use Rattle.can_gates.specs.Circuit.{value, value_at}
 use Rattle.can_gates.specs.Words.{number}
 use Rattle.can_gates_controller.specs.declared.heard.Heard.{Heard}
 use Rattle.can_gates_mac.specs.declared.driving.StuffPlace.{StuffPlace}
@@ -18,11 +18,11 @@ use Rattle.can_gates_mac.specs.Driving.{HoldsRun}
 
 -- the registers of the first 103 places are these levels
 abbrev pub HoldsLevels : (ℕ → Bool) → List Literal → List Level → Type 0
-HoldsLevels v levels u = (p : ℕ) → p < 103 → value v (slice_index_or levels p (record { signal = 0; negated = false })) ≡ is_recessive (level_at u p)
+HoldsLevels v levels u = (p : ℕ) → p < 103 → value_at v levels p ≡ is_recessive (level_at u p)
 
 -- the registers are the check sequence of these levels
 abbrev pub HoldsCheck : (ℕ → Bool) → List Literal → List Level → Type 0
-HoldsCheck v check u = (p : ℕ) → p < 15 → value v (slice_index_or check p (record { signal = 0; negated = false })) ≡ is_recessive (level_at (crc_of u) p)
+HoldsCheck v check u = (p : ℕ) → p < 15 → value_at v check p ≡ is_recessive (level_at (crc_of u) p)
 
 pub record HoldsFront (v : ℕ → Bool) (k : Heard) (front : FrontParts) : Type 0 where
   pub levels : HoldsLevels v k.levels front.unstuffed

@@ -1,6 +1,7 @@
 -- How the literals of fields become those of levels, and the other way round.
 use Rattle.std.specs.Prelude.{ℕ, zero, suc, ◌≡◌, ◌*◌, Bool, true, false, List, [], ◌∷◌, ◌++◌, drop, slice_index_or}
 use Rattle.can_gates.specs.declared.literal.Literal.{Literal}
+use Rattle.can_gates.specs.Circuit.{never, always}
 use Rattle.can_gates.specs.Words.{number}
 use Rattle.can_gates_controller.specs.declared.fields.Fields.{Fields}
 use Rattle.can_gates_controller.specs.Fields.{bytes_in}
@@ -9,7 +10,7 @@ use Rattle.can_gates_controller.specs.Fields.{bytes_in}
 -- the end stands what is never true
 unfoldable pub turned_word : ℕ → List Literal → List Literal
 turned_word zero items = []
-turned_word (suc n) items = slice_index_or items n (record { signal = 0; negated = false }) ∷ turned_word n items
+turned_word (suc n) items = slice_index_or items n never ∷ turned_word n items
 
 -- the first n bytes, each of eight literals, the last of them first
 unfoldable pub turned_bytes : ℕ → List Literal → List Literal
@@ -19,15 +20,15 @@ turned_bytes (suc n) items = turned_word 8 items ++ turned_bytes n (drop 8 items
 -- from its RTR bit on: in a standard frame IDE and r0 follow it, in an extended one r1 and r0, and then in both the data length code,
 -- its highest place first, and the data
 abbrev pub behind_list : Fields → List Literal → List Literal
-behind_list k bytes = k.remote ∷ record { signal = 0; negated = false } ∷ record { signal = 0; negated = false } ∷ k.dlc.eights ∷ k.dlc.fours ∷ k.dlc.twos ∷ k.dlc.ones ∷ bytes
+behind_list k bytes = k.remote ∷ never ∷ never ∷ k.dlc.eights ∷ k.dlc.fours ∷ k.dlc.twos ∷ k.dlc.ones ∷ bytes
 
 -- the levels of a standard frame, up to the end of these data
 abbrev pub standard_list : Fields → List Literal → List Literal
-standard_list k bytes = record { signal = 0; negated = false } ∷ (turned_word 11 k.identifier ++ behind_list k bytes)
+standard_list k bytes = never ∷ (turned_word 11 k.identifier ++ behind_list k bytes)
 
 -- those of an extended one
 abbrev pub extended_list : Fields → List Literal → List Literal
-extended_list k bytes = record { signal = 0; negated = false } ∷ (turned_word 11 (drop 18 k.identifier) ++ record { signal = 0; negated = true } ∷ record { signal = 0; negated = true } ∷ (turned_word 18 k.identifier ++ behind_list k bytes))
+extended_list k bytes = never ∷ (turned_word 11 (drop 18 k.identifier) ++ always ∷ always ∷ (turned_word 18 k.identifier ++ behind_list k bytes))
 
 -- the identifier of an extended frame that begins with these levels, the lowest place first
 abbrev pub long_list : List Literal → List Literal

@@ -1,7 +1,7 @@
 -- What a controller's circuit takes, holds and gives, each in one list, as a file has it.
 use Rattle.std.specs.Prelude.{ℕ, zero, suc, ◌≡◌, ◌+◌, ◌<◌, Bool, false, List, [], ◌∷◌, ◌++◌, slice_index_or}
 use Rattle.can_gates.specs.declared.literal.Literal.{Literal}
-use Rattle.can_gates.specs.Circuit.{value}
+use Rattle.can_gates.specs.Circuit.{value, never, value_at}
 use Rattle.can_gates_mac.specs.declared.nibble.Nibble.{Nibble}
 use Rattle.can_gates_mac.specs.declared.wires.Wires.{Wires}
 use Rattle.can_gates_mac.specs.declared.registers.Counters.{Counters}
@@ -14,7 +14,7 @@ use Rattle.can_gates_controller.specs.declared.ports.OutputPorts.{OutputPorts}
 -- the first n literals of a word; past its end stands what is never true
 abbrev pub placed : ℕ → List Literal → List Literal
 placed zero word = []
-placed (suc n) [] = record { signal = 0; negated = false } ∷ placed n []
+placed (suc n) [] = never ∷ placed n []
 placed (suc n) (l ∷ word) = l ∷ placed n word
 
 -- the lowest place of a number goes first
@@ -45,4 +45,4 @@ output_list k = ((((k.drive ∷ nibble_before k.told []) ++ field_list k.frame) 
 
 -- so many literals are the signals from this one on
 abbrev pub AreSignals : ℕ → ℕ → List Literal → Type 0
-AreSignals first n l = (v : ℕ → Bool) (p : ℕ) → p < n → value v (slice_index_or l p (record { signal = 0; negated = false })) ≡ v (first + p)
+AreSignals first n l = (v : ℕ → Bool) (p : ℕ) → p < n → value_at v l p ≡ v (first + p)

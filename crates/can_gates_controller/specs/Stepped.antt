@@ -3,7 +3,7 @@ use Rattle.std.specs.Prelude.{ℕ, ◌≡◌, ◌<◌, ◌==◌, ◌&&◌, Bool,
 use Rattle.can_mac.specs.State.{MacState, idle, joining}
 use Rattle.can_gates.specs.declared.literal.Literal.{Literal}
 use Rattle.can_gates.specs.declared.aiger.Register.{Register}
-use Rattle.can_gates.specs.Circuit.{value}
+use Rattle.can_gates.specs.Circuit.{value, value_at}
 use Rattle.can_gates_controller.specs.declared.registers.Registers.{Registers}
 use Rattle.can_gates_controller.specs.declared.ports.InputPorts.{InputPorts}
 use Rattle.can_gates_controller.specs.declared.ports.OutputPorts.{OutputPorts}
@@ -19,7 +19,7 @@ pub record IsRegister (r : Register) (l : Literal) : Type 0 where
 
 -- so many literals are now what others were before
 abbrev pub TakesLevels : (ℕ → Bool) → (ℕ → Bool) → ℕ → List Literal → List Literal → Type 0
-TakesLevels before now places held next = (p : ℕ) → p < places → value now (slice_index_or held p (record { signal = 0; negated = false })) ≡ value before (slice_index_or next p (record { signal = 0; negated = false }))
+TakesLevels before now places held next = (p : ℕ) → p < places → value_at now held p ≡ value_at before next p
 
 -- what a register of this place takes: at a reset 0, but the first one whether the controller joins; else what a bit time makes,
 -- or where none passes what it holds
@@ -28,8 +28,14 @@ taken_at reset joins enable place next held = if reset then place == 0 && joins 
 
 -- registers that take these literals at a reset hold an idle controller, or one that joins
 abbrev pub TakesReset : (ℕ → Bool) → InputPorts → Registers → List Literal → Type 0
-TakesReset before k held taken = (now : ℕ → Bool) → value before k.reset ≡ true → TakesLevels before now 277 (register_list held) taken → HoldsAll now held (if value before k.joins then joining else idle)
+TakesReset before k held taken =
+  (now : ℕ → Bool) → value before k.reset ≡ true → TakesLevels before now 277 (register_list held) taken →
+  HoldsAll now held (if value before k.joins then joining else idle)
 
 -- registers that take these literals hold the next state, and what goes out is that of the machine
 abbrev pub TakesStep : (ℕ → Bool) → InputPorts → OutputPorts → Registers → List Literal → Type 0
-TakesStep before i o held taken = (m : MacState) → HoldsAll before held m → Shows before o m (step_in before i) × ((now : ℕ → Bool) → TakesLevels before now 277 (register_list held) taken → HoldsAll now held (state_behind m (step_in before i)))
+TakesStep before i o held taken =
+  (m : MacState) → HoldsAll before held m →
+  Shows before o m (step_in before i) ×
+  ((now : ℕ → Bool) → TakesLevels before now 277 (register_list held) taken →
+    HoldsAll now held (state_behind m (step_in before i)))

@@ -10,7 +10,7 @@ use Rattle.std.proofs.lemmas.Fmt.{decimal_digit, decimal_is_IsNumeral}
 use Rattle.can_gates.specs.declared.literal.Literal.{Literal}
 use Rattle.can_gates.specs.declared.circuit.Gate.{Gate}
 use Rattle.can_gates.specs.declared.aiger.Register.{Register}
-use Rattle.can_gates.specs.Circuit.{CircuitParts}
+use Rattle.can_gates.specs.Circuit.{CircuitParts, never}
 use Rattle.can_gates.specs.Aiger.{gate_numbers, input_lines, file_lines, output_numbers, register_lines}
 use Rattle.can_gates.specs.AigerNumbers.{AreLines}
 use Rattle.can_gates_files.specs.declared.words.Word.{Word}
@@ -173,7 +173,7 @@ gates_said (g ∷ gates) are = joined one (gates_said gates are.1)
 
 assigns_read : (p : ℕ) (bits : List Bit) (outputs : List Literal) → AreProper (assigns p bits outputs) → Reads before before (flat_map statement_text (assigns p bits outputs)) (map Says (assigns p bits outputs))
 assigns_read p [] outputs are = nothing before
-assigns_read p (b ∷ bits) outputs are = joined (one (slice_index_or outputs p (record { signal = 0; negated = false })) are.0) (assigns_read (p + 1) bits outputs are.1)
+assigns_read p (b ∷ bits) outputs are = joined (one (slice_index_or outputs p never) are.0) (assigns_read (p + 1) bits outputs are.1)
   where
     one : (l : Literal) → IsProper (Assign (bit_text b) l) → Reads before before (statement_text (Assign (bit_text b) l)) (Says (Assign (bit_text b) l) ∷ [])
     one l is = record { on = λ rest. ap (lines_said false) (words_read (Assign (bit_text b) l) rest is) ∙ ap (λ o. said o ∷ before rest) (statement_read (Assign (bit_text b) l) is) }

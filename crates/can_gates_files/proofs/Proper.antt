@@ -1,4 +1,5 @@
 -- Readable names and small numbers make proper statements and symbols.
+use Rattle.can_gates.specs.Circuit.{never}
 use Rattle.std.proofs.Common.{ℕ, zero, suc, ◌+◌, ◌^◌, ◌<◌, if◌then◌else◌, Bool, true, false, eqb, List, [], ◌∷◌, ◌++◌, Some, None, length, map, decimal, codes, refl, sym, subst, arith, append-nil}
 use Rattle.std.specs.Prelude.{slice_index_or}
 use Rattle.std.specs.List.{flat_map, AllByRecursion}
@@ -66,7 +67,7 @@ pub gates_are : (gates : List Gate) → AreLines (map gate_numbers gates) → Ar
 gates_are [] are = tt
 gates_are (g ∷ gates) are = ((omega (arith, are.0.0), omega (arith, are.0.1.0), omega (arith, are.0.1.1.0)), gates_are gates are.1)
 
-output_small : (outputs : List Literal) (p : ℕ) → AreLines (map output_numbers outputs) → (slice_index_or outputs p (record { signal = 0; negated = false })).signal < 2 ^ 64
+output_small : (outputs : List Literal) (p : ℕ) → AreLines (map output_numbers outputs) → (slice_index_or outputs p never).signal < 2 ^ 64
 output_small [] p are = omega arith
 output_small (l ∷ outputs) zero are = omega (arith, are.0.0)
 output_small (l ∷ outputs) (suc p) are = output_small outputs p are.1

@@ -5,6 +5,7 @@ use Rattle.std.specs.Prelude.{ℕ, ◌^◌, ◌<◌, ◌≢◌, ◌==◌, if◌t
 use Rattle.std.specs.Str.{bytes_eq}
 use Rattle.std.specs.Str.Parse.{digits_value}
 use Rattle.can_gates.specs.declared.literal.Literal.{Literal}
+use Rattle.can_gates.specs.Circuit.{never}
 use Rattle.can_gates.specs.declared.circuit.Gate.{Gate}
 
 pub data Statement : Type 0 where
@@ -46,7 +47,7 @@ signal_in word = digits_value 10 (drop 1 word)
 
 -- with a sign before its name a literal is negated
 abbrev pub literal_in : List ℕ → Literal
-literal_in [] = record { signal = 0; negated = false }
+literal_in [] = never
 literal_in (c ∷ word) = if c == 126 then record { signal = signal_in word; negated = true } else record { signal = signal_in (c ∷ word); negated = false }
 
 -- the statement of a line, by how many words it has

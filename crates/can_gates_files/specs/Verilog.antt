@@ -4,7 +4,7 @@ use Rattle.std.specs.Prelude.{ℕ, ◌+◌, ◌-◌, ◌==◌, if◌then◌else�
 use Rattle.std.specs.List.{flat_map}
 use Rattle.can_gates.specs.declared.literal.Literal.{Literal}
 use Rattle.can_gates.specs.declared.aiger.Register.{Register}
-use Rattle.can_gates.specs.Circuit.{CircuitParts}
+use Rattle.can_gates.specs.Circuit.{CircuitParts, never}
 use Rattle.can_gates_files.specs.declared.words.Word.{Word}
 use Rattle.can_gates_files.specs.declared.words.Names.{Names}
 use Rattle.can_gates_files.specs.declared.words.Bit.{Bit}
@@ -21,11 +21,11 @@ wires s (b ∷ bits) = Wire s (bit_text b) ∷ wires (s + 1) bits
 -- these names are assigned the outputs from this one on
 abbrev pub assigns : ℕ → List Bit → List Literal → List Statement
 assigns p [] outputs = []
-assigns p (b ∷ bits) outputs = Assign (bit_text b) (slice_index_or outputs p (record { signal = 0; negated = false })) ∷ assigns (p + 1) bits outputs
+assigns p (b ∷ bits) outputs = Assign (bit_text b) (slice_index_or outputs p never) ∷ assigns (p + 1) bits outputs
 
 -- what a register takes
 abbrev pub next_of : List Register → ℕ → Literal
-next_of registers p = (slice_index_or registers p (record { next = record { signal = 0; negated = false }; starts = false })).next
+next_of registers p = (slice_index_or registers p (record { next = never; starts = false })).next
 
 -- these names take what the registers from this one on do
 abbrev pub takes : ℕ → List Bit → List Register → List Statement

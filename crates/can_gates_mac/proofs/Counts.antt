@@ -4,9 +4,9 @@ use Rattle.std.specs.Prelude.{nat_le}
 use Rattle.std.proofs.lemmas.List.{take_all}
 use Rattle.can_fault.specs.Counters.{rec_after_reception}
 use Rattle.can_gates.specs.declared.literal.Literal.{Literal}
-use Rattle.can_gates.specs.Circuit.{value}
+use Rattle.can_gates.specs.Circuit.{value, never}
 use Rattle.can_gates.specs.Words.{number, bit}
-use Rattle.can_gates.proofs.Constants.{never, value-never}
+use Rattle.can_gates.proofs.Constants.{value-never}
 use Rattle.can_gates.proofs.WordNumbers.{number-take, number-take-lt}
 use Rattle.can_gates_mac.specs.Counting.{tec_after, rec_after}
 use Rattle.can_gates_mac.proofs.NibbleBits.{bits}

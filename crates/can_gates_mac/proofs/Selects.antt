@@ -3,9 +3,8 @@ use Rattle.std.specs.Prelude.{ℕ, suc, ◌≡◌, ◌+◌, ◌*◌, ◌^◌, �
 use Rattle.std.proofs.Common.{arith, sym, ◌∙◌, ap}
 use Rattle.std.proofs.lemmas.List.{get_or_past, get_or-drop, get_or-take, take_all}
 use Rattle.can_gates.specs.declared.literal.Literal.{Literal}
-use Rattle.can_gates.specs.Circuit.{value}
+use Rattle.can_gates.specs.Circuit.{value, never}
 use Rattle.can_gates.specs.Words.{number, bit}
-use Rattle.can_gates.proofs.Constants.{never}
 use Rattle.can_gates.proofs.WordNumbers.{number-take, number-take-lt}
 
 pick_low : {A B : Type 0} (f : A → B) (items : List A) (n p : ℕ) (b : Bool) (made low : B) (d : A) → length items ≤ p → made ≡ (if b then f d else low) → low ≡ f (get_or items n d) → made ≡ f (get_or items (n + p * bit b) d)

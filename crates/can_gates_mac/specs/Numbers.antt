@@ -125,4 +125,15 @@ pub record Numbers : Type 0 where
   pub event : ℕ
 
 abbrev pub numbers : MacMove → Numbers
-numbers m = record { phase = phase_number m.phase; place = place_number m.phase; last = last_recessive m.phase; unacknowledged = unacknowledged_of m.phase; first = is_first m.phase; sender = is_sender m.role; pending = m.overloads.pending; used = m.overloads.used; cause = cause_number m.cause; event = event_number m.event }
+numbers m = record {
+  phase = phase_number m.phase;
+  place = place_number m.phase;
+  last = last_recessive m.phase;
+  unacknowledged = unacknowledged_of m.phase;
+  first = is_first m.phase;
+  sender = is_sender m.role;
+  pending = m.overloads.pending;
+  used = m.overloads.used;
+  cause = cause_number m.cause;
+  event = event_number m.event;
+}

@@ -16,7 +16,18 @@ use Rattle.can_gates_mac.specs.Inputs.{TellsReading}
 
 -- only the phase changes: a phase of these two numbers
 abbrev pub going : Stance → ℕ → ℕ → ℕ → ℕ → Numbers
-going s phase place cause event = record { phase = phase; place = place; last = false; unacknowledged = false; first = false; sender = is_sender s.role; pending = s.overloads.pending; used = s.overloads.used; cause = cause; event = event }
+going s phase place cause event = record {
+  phase = phase;
+  place = place;
+  last = false;
+  unacknowledged = false;
+  first = false;
+  sender = is_sender s.role;
+  pending = s.overloads.pending;
+  used = s.overloads.used;
+  cause = cause;
+  event = event;
+}
 
 -- how many equal levels in a row a passive flag has, with this one
 abbrev pub run_with : MacPhase → Level → ℕ

@@ -7,7 +7,18 @@ use Rattle.can_gates_mac.specs.Nibbles.{nibble}
 use Rattle.can_gates_mac.specs.Numbers.{Numbers}
 
 unfoldable pub shown : (ℕ → Bool) → Wires → Numbers
-shown v w = record { phase = nibble v w.phase; place = nibble v w.place; last = value v w.last; unacknowledged = value v w.unacknowledged; first = value v w.first; sender = value v w.sender; pending = nibble v w.pending; used = nibble v w.used; cause = nibble v w.cause; event = nibble v w.event }
+shown v w = record {
+  phase = nibble v w.phase;
+  place = nibble v w.place;
+  last = value v w.last;
+  unacknowledged = value v w.unacknowledged;
+  first = value v w.first;
+  sender = value v w.sender;
+  pending = nibble v w.pending;
+  used = nibble v w.used;
+  cause = nibble v w.cause;
+  event = nibble v w.event;
+}
 
 -- the first row whose two literals are true, else this
 abbrev pub listed : (ℕ → Bool) → List Row → Numbers → Numbers

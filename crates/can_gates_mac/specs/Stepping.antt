@@ -22,7 +22,18 @@ place_or_row m = if is_off_phase m.phase then m.counters.row else place_number m
 
 -- a controller, and what it tells
 abbrev pub state_numbers : MacState → Option Event → Numbers
-state_numbers m e = record { phase = phase_number m.phase; place = place_or_row m; last = last_recessive m.phase; unacknowledged = unacknowledged_of m.phase; first = is_first m.phase; sender = is_sender m.role; pending = m.overloads.pending; used = m.overloads.used; cause = 0; event = event_number e }
+state_numbers m e = record {
+  phase = phase_number m.phase;
+  place = place_or_row m;
+  last = last_recessive m.phase;
+  unacknowledged = unacknowledged_of m.phase;
+  first = is_first m.phase;
+  sender = is_sender m.role;
+  pending = m.overloads.pending;
+  used = m.overloads.used;
+  cause = 0;
+  event = event_number e;
+}
 
 pub record HoldsCounters (v : ℕ → Bool) (k : Counters) (c : ConfineParts) : Type 0 where
   pub tec : number v k.tec ≡ c.tec

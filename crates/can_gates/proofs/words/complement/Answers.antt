@@ -1,6 +1,6 @@
+use Rattle.can_gates.specs.Circuit.{never}
 use Rattle.std.proofs.Common.{arith, set, take, get_or, suc, length, add-one, refl, ◌≡◌, ◌<◌, ◌∙◌}
 use Rattle.std.proofs.lemmas.List.{take_all, length-set}
-use Rattle.can_gates.proofs.Constants.{never}
 use Rattle.can_gates.proofs.WordPlaces.{set_place, taken, complement_place}
 use Rattle.can_gates.proofs.words.complement.Goals as goal
 

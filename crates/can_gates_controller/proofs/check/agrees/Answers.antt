@@ -1,6 +1,6 @@
 use Rattle.std.proofs.Common.{◌≡◌, ◌∙◌, not, get_or, refl, ap, arith, add-one}
-use Rattle.can_gates.specs.Circuit.{value}
-use Rattle.can_gates.proofs.Constants.{never, zero-kept, value-never}
+use Rattle.can_gates.specs.Circuit.{value, never}
+use Rattle.can_gates.proofs.Constants.{zero-kept, value-never}
 use Rattle.can_gates_controller.proofs.Checks.{agree_is}
 use Rattle.can_gates_controller.proofs.check.agrees.Goals as goal
 

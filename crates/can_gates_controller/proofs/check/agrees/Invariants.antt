@@ -1,6 +1,5 @@
 use Rattle.std.specs.Prelude.{◌≡◌, get_or}
-use Rattle.can_gates.specs.Circuit.{value, Makes}
-use Rattle.can_gates.proofs.Constants.{never}
+use Rattle.can_gates.specs.Circuit.{value, Makes, never}
 use Rattle.can_gates_controller.proofs.Checks.{any_of}
 use Rattle.can_gates_controller.proofs.check.agrees.Given as goal
 

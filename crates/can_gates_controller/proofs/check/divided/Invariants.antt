@@ -3,8 +3,7 @@ use Rattle.can_frame.specs.declared.level.Level.{Level}
 use Rattle.can_frame.specs.Levels.{is_recessive}
 use Rattle.can_wire.specs.Crc.{crc_of}
 use Rattle.can_wire.specs.Layout.{level_at}
-use Rattle.can_gates.specs.Circuit.{value, Makes, differ}
-use Rattle.can_gates.proofs.Constants.{never}
+use Rattle.can_gates.specs.Circuit.{value, Makes, differ, never}
 use Rattle.can_gates_controller.specs.Fronts.{HoldsCheck}
 use Rattle.can_gates_controller.proofs.check.divided.Given as goal
 

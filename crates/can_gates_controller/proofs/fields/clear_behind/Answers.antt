@@ -3,8 +3,8 @@ use Rattle.std.proofs.lemmas.List.{length-set}
 use Rattle.std.specs.Prelude.{nat_lt, ◌&&◌}
 use Rattle.can_frame.specs.Parts.{byte_count}
 use Rattle.can_frame.specs.Stored.{byte_count_le}
-use Rattle.can_gates.specs.Circuit.{value}
-use Rattle.can_gates.proofs.Constants.{never, zero-kept}
+use Rattle.can_gates.specs.Circuit.{value, never}
+use Rattle.can_gates.proofs.Constants.{zero-kept}
 use Rattle.can_gates_mac.specs.Nibbles.{nibble}
 use Rattle.can_gates_controller.proofs.Cleared.{cleared_is}
 use Rattle.can_gates_controller.proofs.FrontPlaces.{written_place}

@@ -1,7 +1,6 @@
 use Rattle.std.specs.Prelude.{◌≡◌, ◌<◌, ◌/◌, ◌&&◌, ℕ, nat_lt, length, get_or}
 use Rattle.can_frame.specs.Parts.{byte_count}
-use Rattle.can_gates.specs.Circuit.{value, Makes}
-use Rattle.can_gates.proofs.Constants.{never}
+use Rattle.can_gates.specs.Circuit.{value, Makes, never}
 use Rattle.can_gates_mac.specs.Nibbles.{nibble}
 use Rattle.can_gates_controller.proofs.fields.clear_behind.Given as goal
 

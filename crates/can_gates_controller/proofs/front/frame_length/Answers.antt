@@ -2,9 +2,9 @@ use Rattle.std.proofs.Common.{◌≡◌, ◌∙◌, ℕ, ◌<◌, get_or, refl, 
 use Rattle.std.proofs.lemmas.List.{take_all}
 use Rattle.can_frame.specs.Levels.{is_recessive}
 use Rattle.can_wire.specs.Layout.{level_at}
-use Rattle.can_gates.specs.Circuit.{value}
+use Rattle.can_gates.specs.Circuit.{value, never}
 use Rattle.can_gates.specs.Words.{number, bit}
-use Rattle.can_gates.proofs.Constants.{never, zero-kept, value-never}
+use Rattle.can_gates.proofs.Constants.{zero-kept, value-never}
 use Rattle.can_gates.proofs.WordNumbers.{number-lt}
 use Rattle.can_gates_controller.proofs.Lengths.{length_is}
 use Rattle.can_gates_controller.proofs.front.frame_length.Goals as goal

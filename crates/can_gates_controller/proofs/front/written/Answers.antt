@@ -1,9 +1,9 @@
 use Rattle.std.proofs.Common.{◌≡◌, ◌%◌, ◌^◌, ◌∙◌, get_or, refl, arith, length, ◌<◌}
 use Rattle.std.proofs.lemmas.List.{length-set}
 use Rattle.std.specs.Prelude.{◌==◌, ◌&&◌, ◌||◌}
-use Rattle.can_gates.specs.Circuit.{value}
+use Rattle.can_gates.specs.Circuit.{value, never}
 use Rattle.can_gates.specs.Words.{number}
-use Rattle.can_gates.proofs.Constants.{never, zero-kept}
+use Rattle.can_gates.proofs.Constants.{zero-kept}
 use Rattle.can_gates_controller.proofs.FrontPlaces.{written_place}
 use Rattle.can_gates_controller.proofs.front.written.Goals as goal
 

@@ -1,7 +1,6 @@
 use Rattle.std.specs.Prelude.{◌≡◌, ◌<◌, ◌==◌, ◌&&◌, ◌||◌, ℕ, length, get_or}
-use Rattle.can_gates.specs.Circuit.{value, Makes}
+use Rattle.can_gates.specs.Circuit.{value, Makes, never}
 use Rattle.can_gates.specs.Words.{number}
-use Rattle.can_gates.proofs.Constants.{never}
 use Rattle.can_gates_controller.proofs.front.written.Given as goal
 
 -- what the place p of the levels becomes

@@ -1,8 +1,7 @@
 use Rattle.std.proofs.Common.{◌≡◌, ◌∙◌, get_or, refl, arith, length, ◌<◌}
 use Rattle.std.proofs.lemmas.List.{length-set}
 use Rattle.std.specs.Prelude.{if◌then◌else◌}
-use Rattle.can_gates.specs.Circuit.{value}
-use Rattle.can_gates.proofs.Constants.{never}
+use Rattle.can_gates.specs.Circuit.{value, never}
 use Rattle.can_gates_controller.specs.Laying.{standard_list, extended_list}
 use Rattle.can_gates_controller.proofs.FrontPlaces.{written_place}
 use Rattle.can_gates_controller.proofs.laying.lay_out.Goals as goal

@@ -1,6 +1,5 @@
 use Rattle.std.specs.Prelude.{◌≡◌, ◌<◌, if◌then◌else◌, ℕ, length, get_or}
-use Rattle.can_gates.specs.Circuit.{value, Makes}
-use Rattle.can_gates.proofs.Constants.{never}
+use Rattle.can_gates.specs.Circuit.{value, Makes, never}
 use Rattle.can_gates_controller.proofs.levels.choose_levels.Given as goal
 
 -- what the place p of the levels becomes

@@ -1,5 +1,5 @@
+use Rattle.can_gates.specs.Circuit.{never}
 use Rattle.std.proofs.Common.{◌≡◌, get_or, length, refl, rules, arith}
-use Rattle.can_gates.proofs.Constants.{never}
 use Rattle.can_gates_controller.specs.Stepped.{IsRegister}
 use Rattle.can_gates_controller.proofs.ListedLemmas.{pushed_at}
 use Rattle.can_gates_controller.proofs.listing.starting.Goals as goal

@@ -1,5 +1,5 @@
+use Rattle.can_gates.specs.Circuit.{never}
 use Rattle.std.specs.Prelude.{◌≡◌, ◌<◌, ℕ, false, length, get_or}
-use Rattle.can_gates.proofs.Constants.{never}
 use Rattle.can_gates_controller.specs.Stepped.{IsRegister}
 use Rattle.can_gates_controller.proofs.listing.starting.Given as goal
 

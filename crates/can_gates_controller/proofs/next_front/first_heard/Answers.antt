@@ -1,6 +1,6 @@
 use Rattle.std.proofs.Common.{◌≡◌, ◌∙◌, ℕ, zero, suc, get_or, replicate, refl, ap}
-use Rattle.can_gates.specs.Circuit.{value}
-use Rattle.can_gates.proofs.Constants.{never, value-never}
+use Rattle.can_gates.specs.Circuit.{value, never}
+use Rattle.can_gates.proofs.Constants.{value-never}
 use Rattle.can_gates_controller.proofs.Phases.{first_level, first_check}
 use Rattle.can_gates_controller.proofs.next_front.first_heard.Goals as goal
 

@@ -1,9 +1,9 @@
 use Rattle.std.proofs.Common.{◌≡◌, ◌∙◌, ◌-◌, get_or, length, refl, arith}
 use Rattle.std.proofs.lemmas.List.{take_all}
 use Rattle.can_wire.specs.Wire.{head}
-use Rattle.can_gates.specs.Circuit.{value}
+use Rattle.can_gates.specs.Circuit.{value, never}
 use Rattle.can_gates.specs.Words.{number}
-use Rattle.can_gates.proofs.Constants.{never, zero-kept}
+use Rattle.can_gates.proofs.Constants.{zero-kept}
 use Rattle.can_gates_controller.proofs.Own.{frame_len-head, next_own_level}
 use Rattle.can_gates_controller.proofs.sending.next_sent.Goals as goal
 

@@ -1,8 +1,8 @@
 use Rattle.std.proofs.Common.{◌≡◌, ◌∙◌, length, get_or, refl, arith, ◌<◌}
 use Rattle.std.proofs.lemmas.List.{length-set}
 use Rattle.std.specs.Prelude.{◌==◌, ◌&&◌, ◌||◌}
-use Rattle.can_gates.specs.Circuit.{value}
-use Rattle.can_gates.proofs.Constants.{never, zero-kept}
+use Rattle.can_gates.specs.Circuit.{value, never}
+use Rattle.can_gates.proofs.Constants.{zero-kept}
 use Rattle.can_gates_controller.specs.Listed.{register_list}
 use Rattle.can_gates_controller.proofs.FrontPlaces.{written_place}
 use Rattle.can_gates_controller.proofs.stepping.merge.Goals as goal

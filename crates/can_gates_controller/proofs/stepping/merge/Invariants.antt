@@ -1,6 +1,5 @@
 use Rattle.std.specs.Prelude.{◌≡◌, ◌<◌, ◌==◌, ◌&&◌, ◌||◌, ℕ, length, get_or}
-use Rattle.can_gates.specs.Circuit.{value, Makes}
-use Rattle.can_gates.proofs.Constants.{never}
+use Rattle.can_gates.specs.Circuit.{value, Makes, never}
 use Rattle.can_gates_controller.specs.Listed.{register_list}
 use Rattle.can_gates_controller.proofs.stepping.merge.Given as goal
 

@@ -1,7 +1,7 @@
 use Rattle.std.proofs.Common.{◌∙◌, [], ◌∷◌, refl}
-use Rattle.can_gates.specs.Circuit.{value}
+use Rattle.can_gates.specs.Circuit.{value, never}
 use Rattle.can_gates.specs.Words.{number}
-use Rattle.can_gates.proofs.Constants.{never, zero-kept, value-never}
+use Rattle.can_gates.proofs.Constants.{zero-kept, value-never}
 use Rattle.can_gates_mac.specs.Nibbles.{nibble}
 use Rattle.can_gates_controller.proofs.StepsTaken.{two_places, wish_holds}
 use Rattle.can_gates_controller.proofs.stepping.with_wish.Goals as goal

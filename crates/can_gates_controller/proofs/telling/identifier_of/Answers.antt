@@ -1,8 +1,8 @@
 use Rattle.std.proofs.Common.{◌≡◌, ◌∙◌, ◌<◌, length, get_or, refl, arith}
 use Rattle.std.proofs.lemmas.List.{length-set}
 use Rattle.std.specs.Prelude.{if◌then◌else◌}
-use Rattle.can_gates.specs.Circuit.{value}
-use Rattle.can_gates.proofs.Constants.{never, zero-kept}
+use Rattle.can_gates.specs.Circuit.{value, never}
+use Rattle.can_gates.proofs.Constants.{zero-kept}
 use Rattle.can_gates_controller.specs.Laying.{long_list, short_list}
 use Rattle.can_gates_controller.proofs.FrontPlaces.{written_place}
 use Rattle.can_gates_controller.proofs.Told.{length-long, length-short}

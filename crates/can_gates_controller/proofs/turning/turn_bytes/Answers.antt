@@ -1,6 +1,6 @@
+use Rattle.can_gates.specs.Circuit.{never}
 use Rattle.std.proofs.Common.{◌<◌, ◌+◌, ◌-◌, ◌*◌, ◌/◌, ◌%◌, ◌∙◌, sym, drop, length, get_or, arith}
 use Rattle.std.proofs.lemmas.List.{length-set, get_or-drop, ext_get_or}
-use Rattle.can_gates.proofs.Constants.{never}
 use Rattle.can_gates_controller.specs.Laying.{turned_bytes}
 use Rattle.can_gates_controller.proofs.FrontPlaces.{written_literal}
 use Rattle.can_gates_controller.proofs.TurnedLevels.{turned_bytes_at, length-turned_bytes}

@@ -1,5 +1,5 @@
+use Rattle.can_gates.specs.Circuit.{never}
 use Rattle.std.proofs.Common.{◌≡◌, ◌<◌, ℕ, drop, length, get_or}
-use Rattle.can_gates.proofs.Constants.{never}
 use Rattle.can_gates_controller.specs.Laying.{turned_bytes}
 use Rattle.can_gates_controller.proofs.turning.turn_bytes.Given as goal
 

@@ -1,8 +1,8 @@
 use Rattle.std.proofs.Common.{arith, set, take, get_or, suc, length, add-one, refl, ◌≡◌, ◌<◌, ◌∙◌}
 use Rattle.std.proofs.lemmas.List.{take_all, length-set}
-use Rattle.can_gates.specs.Circuit.{value}
+use Rattle.can_gates.specs.Circuit.{value, never}
 use Rattle.can_gates.specs.Words.{bit}
-use Rattle.can_gates.proofs.Constants.{never, zero-kept}
+use Rattle.can_gates.proofs.Constants.{zero-kept}
 use Rattle.can_gates.proofs.WordPlaces.{set_place, taken}
 use Rattle.can_gates.proofs.SumPlaces.{sum_place}
 use Rattle.can_gates.proofs.circuit.Circuit.add.Goals as goal

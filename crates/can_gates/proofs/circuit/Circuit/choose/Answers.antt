@@ -1,6 +1,7 @@
+use Rattle.can_gates.specs.Circuit.{never}
 use Rattle.std.proofs.Common.{arith, set, take, get_or, suc, length, add-one, refl, ◌≡◌, ◌<◌, ◌∙◌}
 use Rattle.std.proofs.lemmas.List.{take_all, length-set}
-use Rattle.can_gates.proofs.Constants.{never, zero-kept}
+use Rattle.can_gates.proofs.Constants.{zero-kept}
 use Rattle.can_gates.proofs.WordPlaces.{set_place, taken, choose_place}
 use Rattle.can_gates.proofs.circuit.Circuit.choose.Goals as goal
 

@@ -1,7 +1,7 @@
 use Rattle.std.proofs.Common.{arith, take, ◌≡◌, ◌+◌, ◌^◌, ◌<◌, ◌∙◌}
-use Rattle.can_gates.specs.Circuit.{value}
+use Rattle.can_gates.specs.Circuit.{value, never}
 use Rattle.can_gates.specs.Words.{number, bit}
-use Rattle.can_gates.proofs.Constants.{never, zero-kept, value-never}
+use Rattle.can_gates.proofs.Constants.{zero-kept, value-never}
 use Rattle.can_gates.proofs.WordNumbers.{number-lt}
 use Rattle.can_gates.proofs.SumPlaces.{stopped}
 use Rattle.can_gates.proofs.circuit.Circuit.raised.Goals as goal
