@@ -11,7 +11,7 @@ use Rattle.can_wire.specs.Crc.{plus, xor, lower_terms, scaled, crc_of, IsCrc}
 use Rattle.can_wire.specs.Layout.{level_at, head_of, check_of}
 use Rattle.can_wire.proofs.DivisionLemmas.{none, length-crc_of}
 use Rattle.can_wire.proofs.XorLemmas.{plus_zero, xor_self, xor_zeros}
-use Rattle.can_wire.proofs.Register.{register, crc_of-on, crc_of-behind_none, register-top}
+use Rattle.can_wire.proofs.Register.{register, crc_of-on, crc_of-behind_none, register-top, crc_of-none}
 use Rattle.can_wire.proofs.LevelLemmas.{bits_of-none}
 use Rattle.can_wire.proofs.LayoutNumbers.{bits_of-number_from, number_from-lt}
 use Rattle.can_wire.proofs.LayoutPlaces.{level_at-dominant, level_at-append, level_at-behind}
@@ -19,6 +19,7 @@ use Rattle.can_wire.proofs.CheckRuns.{IsCrc-zero, zero-IsCrc}
 use Rattle.can_mac.specs.Moves.{agrees}
 use Rattle.can_mac.proofs.PartEnds.{agrees-told}
 use Rattle.can_gates.specs.Circuit.{differ}
+use Rattle.can_frame.proofs.LevelTests.{level_dominant}
 
 -- A level more.
 
@@ -91,13 +92,9 @@ any_none : (n k : ℕ) → any_of (λ p. is_recessive (level_at (none k) p)) n �
 any_none zero k = refl
 any_none (suc n) k = rw (any_none n k, level_at-none k n) refl
 
-dominant_is : (x : Level) → is_recessive x ≡ false → x ≡ Dominant
-dominant_is Dominant e = refl
-dominant_is Recessive e = cc e
-
 all_dominant : (l : List Level) → ((p : ℕ) → p < length l → is_recessive (level_at l p) ≡ false) → l ≡ none (length l)
 all_dominant [] h = refl
-all_dominant (x ∷ l) h = rw (dominant_is x (h 0 (omega arith))) (ap (λ t. Dominant ∷ t) (all_dominant l (λ p lt. h (suc p) (omega (arith, lt)))))
+all_dominant (x ∷ l) h = rw (level_dominant x (h 0 (omega arith))) (ap (λ t. Dominant ∷ t) (all_dominant l (λ p lt. h (suc p) (omega (arith, lt)))))
 
 -- the check sequence of all levels tells, where nothing is left of it
 agree_by : (u : List Level) (any : Bool) → 15 ≤ length u → any_of (λ p. is_recessive (level_at (crc_of u) p)) 15 ≡ any → not any ≡ agrees u
@@ -124,13 +121,6 @@ agree_is f u long is = agree_by u (any_of f 15) long (sym (any_same f (λ p. is_
 
 -- What is sent.
 
-crc_nil : crc_of [] ≡ none 15
-unfolding crc_of
-crc_nil = refl
-
-crc_none : (n : ℕ) → crc_of (none n) ≡ none 15
-crc_none n = ap crc_of (sym (append-nil (none n))) ∙ crc_of-behind_none n [] ∙ crc_nil
-
 -- behind the levels of a list and some of its check sequence the register has the others
 register_rest : (h : List Level) (j : ℕ) → j ≤ 15 → crc_of (h ++ take j (crc_of h)) ≡ drop j (crc_of h) ++ none j
 register_rest h j few =
@@ -138,7 +128,7 @@ register_rest h j few =
     let t = take j c in
     let size : length t ≡ j = length-take-le j c (omega (arith, length-crc_of h, few)) in
     let rest : length (drop j c) + length t ≡ 15 = omega (arith, length-drop j c, length-crc_of h, size, few) in
-    let nothing : crc_of (xor t t) ≡ none 15 = ap crc_of (xor_self t) ∙ crc_none (length t) in
+    let nothing : crc_of (xor t t) ≡ none 15 = ap crc_of (xor_self t) ∙ crc_of-none (length t) in
     let long : 15 ≤ length (drop j c ++ none (length t)) = omega (arith, length-append (drop j c) (none (length t)), length-replicate (length t) Dominant, rest) in
     crc_of-on h t ∙ ap (λ r. register r t) (sym (take-append-drop j c)) ∙ register-top t (drop j c) t refl rest ∙ ap (xor (drop j c ++ none (length t))) nothing ∙ xor_zeros (drop j c ++ none (length t)) 15 long ∙ ap (λ n. drop j c ++ none n) size
 

@@ -25,8 +25,9 @@ use Rattle.can_gates_controller.specs.Fields.{identifier_places, bytes_in, frame
 use Rattle.can_gates_controller.specs.Laying.{turned_word, turned_bytes, IsCleared, behind_list, standard_list, extended_list}
 use Rattle.can_gates_controller.proofs.WordParts.{number-split}
 use Rattle.can_gates_controller.proofs.ListPlaces.{left_at, right_at}
-use Rattle.can_gates_controller.proofs.TurnedLevels.{literal_level, levels_in, level_in, bit_back, levels_turned, levels_turned_bytes, length-turned, turned_at}
+use Rattle.can_gates_controller.proofs.TurnedLevels.{literal_level, levels_in, level_in, levels_turned, levels_turned_bytes, length-turned, turned_at}
 use Rattle.can_gates_controller.proofs.Cleared.{cleared_levels}
+use Rattle.can_wire.proofs.LayoutRead.{bit_back}
 
 abbrev frame_from : ℕ → Bool → Bool → ℕ → List ℕ → Parts
 frame_from raw extended remote dlc bytes = record { id = record { raw = raw; extended = extended }; remote = remote; dlc = dlc; bytes = bytes }

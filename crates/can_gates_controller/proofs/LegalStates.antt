@@ -113,14 +113,11 @@ going_fits front h =
 
 -- places that aren't heard yet
 
-same_is : (n : ℕ) → eqb n n ≡ true
-same_is n = eq-eqb n n refl
-
 pub behind_more : (n p : ℕ) → (nat_lt n p || eqb n p) ≡ nat_lt n (p + 1)
 behind_more n p = by (cases_lt n p)
   where
     last : (n ≡ p) ⊎ (n ≡ p → ⊥) → p ≤ n → eqb n p ≡ nat_lt n (p + 1)
-    last (inl e) h = rw (e, below_is p (p + 1) (omega arith), same_is p) refl
+    last (inl e) h = rw (e, below_is p (p + 1) (omega arith), eq-eqb p p refl) refl
     last (inr e) h = rw (ne_eqb n p e, above_is n (p + 1) (omega (arith, e, h))) refl
 
     by : (n < p) ⊎ (p ≤ n) → (nat_lt n p || eqb n p) ≡ nat_lt n (p + 1)
@@ -141,7 +138,7 @@ dominant_behind u p = by (cases_lt p (length u))
 -- by the phase
 
 pub whole_fits : (n m : ℕ) → n ≡ m → (eqb m n && true) ≡ true
-whole_fits n m e = rw (e, same_is m) refl
+whole_fits n m e = rw (e, eq-eqb m m refl) refl
 
 pub front_of : (p : MacPhase) (C : Type 0) → is_part p ≡ true → ((front : FrontParts) → p ≡ StuffedPart front → C) → C
 front_of (StuffedPart front) C e f = f front refl

@@ -40,9 +40,6 @@ pub first_sent : (f : Parts) → first_front.unstuffed ≡ take (length first_fr
 unfolding unstuffed head
 first_sent f = refl
 
-eqb-same : (n : ℕ) → eqb n n ≡ true
-eqb-same n = eq-eqb n n refl
-
 -- while a bit of it is to come, there is one
 some_left : (f : Parts) → IsFrame f → (front : FrontParts) → IsOpen front → eqb front.run 5 ≡ false → front.unstuffed ≡ take (length front.unstuffed) (unstuffed f) → length front.unstuffed < length (unstuffed f)
 some_left f is front going not_due sent = by (cases_lt (length front.unstuffed) (length (unstuffed f)))
@@ -51,7 +48,7 @@ some_left f is front going not_due sent = by (cases_lt (length front.unstuffed) 
     by (inl h) = h
     by (inr h) =
         let all : front.unstuffed ≡ unstuffed f = sent ∙ take_all (length front.unstuffed) (unstuffed f) h in
-        let whole : has_check front.unstuffed ≡ true = ap has_check all ∙ rw (sym (unstuffed-complete f is).whole) (eqb-same (length (unstuffed f))) in
+        let whole : has_check front.unstuffed ≡ true = ap has_check all ∙ rw (sym (unstuffed-complete f is).whole) (eq-eqb (length (unstuffed f)) (length (unstuffed f)) refl) in
         absurd (true≢false (sym whole ∙ next_place-partial front going.goes_on (eqb-false front.run 5 not_due)))
 
 abbrev due : FrontParts → Level → FrontParts

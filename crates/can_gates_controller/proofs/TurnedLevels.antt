@@ -16,6 +16,7 @@ use Rattle.can_gates.proofs.Constants.{value-never}
 use Rattle.can_gates.proofs.WordNumbers.{number-take, number-take-lt}
 use Rattle.can_gates_controller.specs.Fields.{bytes_in}
 use Rattle.can_gates_controller.specs.Laying.{turned_word, turned_bytes}
+use Rattle.can_frame.proofs.LevelTests.{level_told}
 
 abbrev pub literal_level : (ℕ → Bool) → Literal → Level
 literal_level v l = level_from (value v l)
@@ -28,14 +29,6 @@ pub level_in : (v : ℕ → Bool) → v 0 ≡ false → (items : List Literal) (
 level_in v zero_is [] p = ap level_from (sym (value-never v zero_is))
 level_in v zero_is (l ∷ items) zero = refl
 level_in v zero_is (l ∷ items) (suc p) = level_in v zero_is items p
-
-pub bit_back : (b : Bool) → is_recessive (level_from b) ≡ b
-bit_back true = refl
-bit_back false = refl
-
-pub level_back : (x : Level) → level_from (is_recessive x) ≡ x
-level_back Dominant = refl
-level_back Recessive = refl
 
 pub length-turned : (n : ℕ) (items : List Literal) → length (turned_word n items) ≡ n
 unfolding turned_word
@@ -129,7 +122,7 @@ bytes_from_same (suc n) a b same =
 -- literals from a place on, whose values are levels from that place on
 pub levels_behind : (v : ℕ → Bool) → v 0 ≡ false → (items : List Literal) (u : List Level) (s p : ℕ) → value v (get_or items (s + p) never) ≡ is_recessive (level_at u (s + p)) → level_at (levels_in v (drop s items)) p ≡ level_at (drop s u) p
 levels_behind v zero_is items u s p is =
-    level_in v zero_is (drop s items) p ∙ ap (literal_level v) (get_or-drop s items p never) ∙ ap level_from is ∙ level_back (level_at u (s + p)) ∙ sym (get_or-drop s u p Dominant)
+    level_in v zero_is (drop s items) p ∙ ap (literal_level v) (get_or-drop s items p never) ∙ ap level_from is ∙ level_told (level_at u (s + p)) ∙ sym (get_or-drop s u p Dominant)
 
 -- The places of literals in the other order.
 

@@ -10,7 +10,7 @@ ghost use Rattle.can_gates_controller.specs.Holding.{HoldsHeard, IsSeen};
 
 use crate::front::read;
 use crate::heard::Heard;
-use crate::next_front::{follow, within};
+use crate::next_front::{front_behind, within};
 use crate::seen::Seen;
 use can_gates::Circuit;
 use can_gates_mac::{Controller, Inputs, step};
@@ -26,7 +26,7 @@ pub fn step_hearing(
 {
     let within = within(circuit, held.wires.phase);
     let (next, part) = read(circuit, heard, seen.seen, seen.sent, seen.extended);
-    let behind = follow(circuit, within, heard, &next);
+    let behind = front_behind(circuit, within, heard, &next);
     let inputs = Inputs {
         waits: seen.waits,
         seen: seen.seen,

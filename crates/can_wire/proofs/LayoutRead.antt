@@ -25,7 +25,7 @@ same_heard : (raw raw' : ℕ) (extended remote remote' : Bool) (dlc dlc' : ℕ) 
     → heard raw extended remote dlc bytes srr r1 r0 acked last ≡ heard raw' extended remote' dlc' bytes' srr' r1' r0 acked last
 same_heard raw raw' extended remote remote' dlc dlc' bytes bytes' srr srr' r1 r1' r0 acked last p q r s t u = cc
 
-bit_back : (b : Bool) → is_recessive (level_from b) ≡ b
+pub bit_back : (b : Bool) → is_recessive (level_from b) ≡ b
 bit_back true = refl
 bit_back false = refl
 

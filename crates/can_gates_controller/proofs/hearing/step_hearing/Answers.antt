@@ -5,10 +5,10 @@ use Rattle.can_gates_controller.proofs.hearing.step_hearing.Goals as goal
 
 pub returns : goal.returns
 returns c = (
-  c.step-made.ensures.0 ∙ c.follow-behind.ensures.0 ∙ c.read.ensures.0 ∙ c.within-within.ensures.0,
+  c.step-made.ensures.0 ∙ c.front_behind-behind.ensures.0 ∙ c.read.ensures.0 ∙ c.within-within.ensures.0,
   λ v keeps.
       let made = c.step-made.ensures.1 v keeps in
-      let behind = c.follow-behind.ensures.1 v made.0 in
+      let behind = c.front_behind-behind.ensures.1 v made.0 in
       let read = c.read.ensures.1 v behind.0 in
       let within = c.within-within.ensures.1 v read.0 in (
         within.0,

@@ -1,7 +1,7 @@
 use Rattle.std.proofs.Common.{◌∙◌}
 use Rattle.can_gates.proofs.Constants.{zero-kept}
 use Rattle.can_gates_controller.proofs.Phases.{followed}
-use Rattle.can_gates_controller.proofs.next_front.follow.Goals as goal
+use Rattle.can_gates_controller.proofs.next_front.front_behind.Goals as goal
 
 pub returns : goal.returns
 returns c = (
