@@ -1,6 +1,7 @@
 -- What a walk along rising hits finds.
 use Rattle.std.specs.List.{list_any, slice_get}
 use Rattle.std.proofs.Common.{◌≡◌, ℕ, ◌<◌, ◌≤◌, ◌⊎◌, Bool, true, false, ◌||◌, List, [], ◌∷◌, Option, Some, None, length, get_or, refl, sym, ◌∙◌, ap, subst, inl, inr, arith}
+use Rattle.std.proofs.Math.Bool.{or-false}
 use Rattle.std.proofs.lemmas.Bool.{cases_order}
 use Rattle.std.proofs.lemmas.Bool.Decides.{nat_tests}
 use Rattle.std.proofs.lemmas.List.Folds.{list_any_none}
@@ -93,10 +94,6 @@ wire_found time hits = list_any_alike (is_hit (At time)) (hits_wire time None) a
     alike (In n o) = refl
     alike (View t p) = refl
 
-or_false : (b : Bool) → b ≡ (b || false)
-or_false true = refl
-or_false false = refl
-
 pub attempt_found : (time : ℕ) (a : Attempt) (hits : List Hit) →
     (list_any (is_hit (At time)) hits || list_any (is_hit (In a.number a.offset)) hits) ≡ list_any (hits_wire time (Some a)) hits
 attempt_found time a hits =
@@ -104,7 +101,7 @@ attempt_found time a hits =
     ∙ list_any_alike (λ h. is_hit (At time) h || is_hit (In a.number a.offset) h) (hits_wire time (Some a)) alike hits
   where
     alike : (h : Hit) → (is_hit (At time) h || is_hit (In a.number a.offset) h) ≡ hits_wire time (Some a) h
-    alike (At t) = sym (or_false (is_hit (At time) (At t)))
+    alike (At t) = or-false (is_hit (At time) (At t))
     alike (In n o) = refl
     alike (View t p) = refl
 
@@ -113,7 +110,7 @@ pub wire_answer : (time : ℕ) (latest : Option Attempt) (hits : List Hit) (t b 
     ((latest ≡ None) × (b ≡ false)) ⊎ ((a : Attempt) × (latest ≡ Some a) × (b ≡ list_any (is_hit (In a.number a.offset)) hits)) →
     (t || b) ≡ list_any (hits_wire time latest) hits
 wire_answer time latest hits t b e (inl h) =
-    ap (λ v. t || v) h.1 ∙ sym (or_false t) ∙ e ∙ wire_found time hits ∙ ap (λ l. list_any (hits_wire time l) hits) (sym h.0)
+    ap (λ v. t || v) h.1 ∙ or-false t ∙ e ∙ wire_found time hits ∙ ap (λ l. list_any (hits_wire time l) hits) (sym h.0)
 wire_answer time latest hits t b e (inr (a, is, found)) =
     ap (λ v. t || v) found ∙ ap (λ v. v || list_any (is_hit (In a.number a.offset)) hits) e ∙ attempt_found time a hits
     ∙ ap (λ l. list_any (hits_wire time l) hits) (sym is)

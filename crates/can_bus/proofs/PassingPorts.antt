@@ -1,5 +1,5 @@
 -- Ports that a frame passes at once: what they drive in its bit times, and which they are among others.
-use Rattle.std.proofs.Common.{◌≡◌, ℕ, zero, suc, ◌+◌, ◌-◌, ◌++◌, ◌<◌, ◌⊎◌, Some, List, [], ◌∷◌, length, map, take, drop, get_or, add-one, refl, sym, ap, subst, ◌∙◌, arith, inl, inr}
+use Rattle.std.proofs.Common.{◌≡◌, ℕ, zero, suc, ◌+◌, ◌++◌, ◌<◌, ◌⊎◌, Some, List, [], ◌∷◌, length, map, take, drop, get_or, add-one, refl, sym, ap, subst, ◌∙◌, arith, inl, inr}
 use Rattle.std.proofs.lemmas.List.{map-id, take-take}
 use Rattle.can_frame.specs.declared.level.Level.{Level}
 use Rattle.can_frame.specs.declared.level.Level.TheVariants.{Dominant, Recessive}
@@ -25,6 +25,7 @@ use Rattle.can_bus.proofs.HitRuns.{sees}
 use Rattle.can_bus.proofs.PortLoops.{front_at}
 use Rattle.can_bus.proofs.Reduction.{maps-alike}
 use Rattle.can_bus.proofs.WireRuns.{all_after}
+use Rattle.can_bus.proofs.WiredLemmas.{over_swap}
 
 -- ---- what they drive
 
@@ -51,12 +52,6 @@ over_self Recessive = refl
 over_twice : (y w : Level) → over y (over y w) ≡ over y w
 over_twice Dominant w = refl
 over_twice Recessive w = refl
-
-over_swap : (y d w : Level) → over y (over d w) ≡ over d (over y w)
-over_swap Dominant Dominant w = refl
-over_swap Dominant Recessive w = refl
-over_swap Recessive Dominant w = refl
-over_swap Recessive Recessive w = refl
 
 -- one level that comes to z over y, and others that come to z or to y
 one_more : (y z d w : Level) → over y d ≡ z → (over y w ≡ y) ⊎ (over y w ≡ z) → over y (over d w) ≡ z

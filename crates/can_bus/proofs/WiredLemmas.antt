@@ -13,7 +13,7 @@ use Rattle.can_frame.specs.Levels.{is_recessive, level_code}
 use Rattle.can_bus.specs.Wired.{over, wired}
 use Rattle.can_frame.proofs.LevelTests.{level_dominant, level_recessive}
 
-over_swap : (x y z : Level) → over x (over y z) ≡ over y (over x z)
+pub over_swap : (x y z : Level) → over x (over y z) ≡ over y (over x z)
 over_swap Dominant Dominant z = refl
 over_swap Dominant Recessive z = refl
 over_swap Recessive y z = refl

@@ -1,9 +1,9 @@
 ghost use Rattle.std.specs.Prelude.{◌≡◌, ◌≢◌, Some, IfSome, length, map, option_map};
 ghost use Rattle.can_frame.specs.Levels.{level_of, level_code, levels_of_codes};
+ghost use Rattle.can_mac.specs.Codes.{event_code as event_code_of};
 ghost use Rattle.can_node.specs.Ports.{port_drives, port_event, port_events, port_run, port_step};
 ghost use Rattle.can_c.specs.BitTimes.{drives_over, told_frame};
 ghost use Rattle.can_c.specs.Calls.{port_status, run_status, sample_status};
-ghost use Rattle.can_c.specs.Codes.{event_code as event_code_of};
 ghost use Rattle.can_c.specs.Statuses.{done, status_code};
 
 use crate::codes::event_code;

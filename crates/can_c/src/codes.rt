@@ -1,6 +1,7 @@
 //! The numbers by which C knows events and states.
 ghost use Rattle.std.specs.Prelude.{◌≡◌};
-ghost use Rattle.can_c.specs.Codes.{event_code as event_code_of, state_code as state_code_of};
+ghost use Rattle.can_mac.specs.Codes.{event_code as event_code_of};
+ghost use Rattle.can_c.specs.Codes.{state_code as state_code_of};
 
 use can_fault::State;
 use can_mac::Event;

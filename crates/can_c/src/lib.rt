@@ -7,8 +7,8 @@
 //!
 //! | File | What it has | Defined in |
 //! |---|---|---|
-//! | `status.rt` | [`Status`], what a call answers | `specs/Codes.antt` |
-//! | `codes.rt` | the numbers of events and states | `specs/Codes.antt` |
+//! | `status.rt` | [`Status`], what a call answers | `specs/Statuses.antt` |
+//! | `codes.rt` | the numbers of events and states | can_mac's `specs/Codes.antt`, `specs/Codes.antt` |
 //! | `plain.rt` | [`PlainFrame`], [`PlainHeard`], frames as plain fields | `specs/PlainFrames.antt` |
 //! | `controller.rt` | [`Controller`], a port as one value | can_node's `specs/Ports.antt` |
 //! | `handle.rt` | [`Handle`], a controller on the heap, or none: a plain struct of a pointer and a flag, which code that is not Rattle keeps and hands in again with each call | `specs/Owned.antt` |

@@ -1,5 +1,5 @@
-ghost use Rattle.std.specs.Prelude.{◌≡◌, ◌≤◌, ◌==◌, map, take};
-ghost use lib.Lanes.{mask_l};
+ghost use Rattle.std.specs.Prelude.{◌≡◌, ◌<◌, ◌≤◌, ◌==◌, map, take};
+ghost use Rattle.std.specs.Simd.Lanes.{mask_l};
 ghost use Rattle.can_frame.specs.Levels.{digit_of};
 ghost use Rattle.can_code.specs.Digits.{levels_up};
 
@@ -31,10 +31,11 @@ pub(crate) fn levels_of(block: &[u8; BLOCK]) -> BlockLevels
     }
 }
 
-/// Where this byte stands in the block, as the bits of a number. The first place is the lowest bit.
+/// Where this byte stands in the block of 16, as the bits of a number. The first place is the lowest bit.
 #[inline]
-fn places_of(block: &[u8; BLOCK], byte: u8) -> u64
-    ensures { result ≡ mask_l (map (λ x. x == byte) block.now) }
+pub fn places_of(block: &[u8; BLOCK], byte: u8) -> u64
+    ensures places { result ≡ mask_l (map (λ other. other == byte) block.now) }
+    ensures small { result < 65536 }
 {
     u8x16::from_array(*block)
         .simd_eq(u8x16::splat(byte))

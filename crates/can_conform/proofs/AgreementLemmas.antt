@@ -18,7 +18,7 @@ use Rattle.can_mac.specs.declared.event.Event.{Event}
 use Rattle.can_conform.specs.Runs.{before, counters_of, moment_at, started}
 use Rattle.can_conform.specs.Transcripts.{no_counts, item_at, told_before, AgreesAt, AreRising, EndBefore, IsTold}
 use Rattle.can_conform.specs.Verdicts.{IsDifference}
-use Rattle.can_conform.specs.Walks.{HasReached, IsDifferenceAt, IsReached, IsStanding}
+use Rattle.can_conform.specs.Walks.{HasReached, HasWalked, IsDifferenceAt, IsStanding}
 use Rattle.can_conform.proofs.RunLemmas.{before-first, before-past, event-past, level-past, rule-past, since-past}
 use Rattle.can_conform.proofs.TimedLemmas.{reached-first, item_at-past, told_before-first, told_before_more, told_before-past}
 
@@ -65,7 +65,7 @@ quiet-agrees told p t m is reached event held level no_event no_change = record 
 }
 
 pub quiet-reached : (told : Transcript) (p : Progress) (t : ℕ) → IsTold told → HasReached told p t
-    → IfSome told.events (λ events. IsReached events.items p.event (t + 1)) → IfSome told.counters (λ counters. IsReached counters.items p.counter (t + 1))
+    → IfSome told.events (λ events. HasWalked events.items p.event (t + 1)) → IfSome told.counters (λ counters. HasWalked counters.items p.counter (t + 1))
     → IfSome told.counters (λ counters. item_at counters.items t ≡ None) → HasReached told p (t + 1)
 quiet-reached told p t is reached events counters no_change = record { events = events; counters = counters; held = counters-stay told p t is reached no_change }
 

@@ -6,7 +6,7 @@ use Rattle.std.proofs.lemmas.Bool.Decides.{nat_tests}
 use Rattle.std.proofs.lemmas.Option.{slice_get_within}
 use Rattle.can_conform.specs.declared.timed.Timed.{Timed}
 use Rattle.can_conform.specs.Transcripts.{item_at, told_before, AreRising, EndBefore}
-use Rattle.can_conform.specs.Walks.{IsReached}
+use Rattle.can_conform.specs.Walks.{HasWalked}
 
 -- ---- what is told at a time
 
@@ -111,11 +111,11 @@ told_before-past held (x ∷ xs) end t ends past =
 
 -- ---- a walk along them
 
-pub reached-first : {A : Type 0} (xs : List (Timed A)) → IsReached xs 0 0
+pub reached-first : {A : Type 0} (xs : List (Timed A)) → HasWalked xs 0 0
 reached-first xs = record { passed = λ n x h at. absurd (omega arith); ahead = λ n x h at. omega arith }
 
 -- nothing is left
-pub reached-none : {A : Type 0} (xs : List (Timed A)) (place t : ℕ) → length xs ≤ place → IsReached xs place t → (item_at xs t ≡ None) × IsReached xs place (t + 1)
+pub reached-none : {A : Type 0} (xs : List (Timed A)) (place t : ℕ) → length xs ≤ place → HasWalked xs place t → (item_at xs t ≡ None) × HasWalked xs place (t + 1)
 reached-none {A} xs place t past reached =
     let earlier : (n : ℕ) (x : Timed A) → slice_get xs n ≡ Some x → x.time < t =
     λ n x at. (let within : n < length xs = slice_get_within xs n x at in reached.passed n x (omega arith) at) in (
@@ -127,8 +127,8 @@ reached-none {A} xs place t past reached =
     )
 
 -- what is next comes later
-pub reached-later : {A : Type 0} (xs : List (Timed A)) (place t : ℕ) (x : Timed A) → AreRising xs → slice_get xs place ≡ Some x → x.time ≢ t → IsReached xs place t →
-    (item_at xs t ≡ None) × IsReached xs place (t + 1)
+pub reached-later : {A : Type 0} (xs : List (Timed A)) (place t : ℕ) (x : Timed A) → AreRising xs → slice_get xs place ≡ Some x → x.time ≢ t → HasWalked xs place t →
+    (item_at xs t ≡ None) × HasWalked xs place (t + 1)
 reached-later {A} xs place t x rising here other reached =
     let least : t ≤ x.time = reached.ahead place x (omega arith) here in
     let later : (n : ℕ) (y : Timed A) → place ≤ n → slice_get xs n ≡ Some y → t + 1 ≤ y.time =
@@ -147,8 +147,8 @@ reached-later {A} xs place t x rising here other reached =
     )
 
 -- it comes now
-pub reached-here : {A : Type 0} (xs : List (Timed A)) (place t : ℕ) (x : Timed A) → AreRising xs → slice_get xs place ≡ Some x → x.time ≡ t → IsReached xs place t →
-    (item_at xs t ≡ Some x.told) × IsReached xs (place + 1) (t + 1)
+pub reached-here : {A : Type 0} (xs : List (Timed A)) (place t : ℕ) (x : Timed A) → AreRising xs → slice_get xs place ≡ Some x → x.time ≡ t → HasWalked xs place t →
+    (item_at xs t ≡ Some x.told) × HasWalked xs (place + 1) (t + 1)
 reached-here xs place t x rising here now reached = (
   item_at-here xs place t x here now (λ n y h at. let k : y.time < t = reached.passed n y h at in omega arith),
   record {

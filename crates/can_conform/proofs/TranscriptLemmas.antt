@@ -83,7 +83,7 @@ same-rest x y xs ys one other time same t = elim (cases_order x.time t) [
   ]
 ]
 
-timed-is : {A : Type 0} (x y : Timed A) → x.time ≡ y.time → x.told ≡ y.told → x ≡ y
+pub timed-is : {A : Type 0} (x y : Timed A) → x.time ≡ y.time → x.told ≡ y.told → x ≡ y
 timed-is {A} x y time told =
     ap (λ k. let r : Timed A = record { time = k; told = x.told } in r) time ∙ ap (λ v. let r : Timed A = record { time = y.time; told = v } in r) told
 

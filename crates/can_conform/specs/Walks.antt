@@ -40,14 +40,14 @@ pub record Foresees (s : Script) (t : ℕ) (o : Outlook) : Type 0 where
   pub holds : AreMarked s.holds.items t o.last o.marks
 
 -- the walk along them stands at this time: each before this place is earlier, and no other is
-pub record IsReached {A : Type 0} (xs : List (Timed A)) (place time : ℕ) : Type 0 where
+pub record HasWalked {A : Type 0} (xs : List (Timed A)) (place time : ℕ) : Type 0 where
   pub passed : (n : ℕ) (x : Timed A) → n < place → slice_get xs n ≡ Some x → x.time < time
   pub ahead : (n : ℕ) (x : Timed A) → place ≤ n → slice_get xs n ≡ Some x → time ≤ x.time
 
 -- the walk along a transcript stands at this time
 pub record HasReached (told : Transcript) (p : Progress) (t : ℕ) : Type 0 where
-  pub events : IfSome told.events (λ events. IsReached events.items p.event t)
-  pub counters : IfSome told.counters (λ counters. IsReached counters.items p.counter t)
+  pub events : IfSome told.events (λ events. HasWalked events.items p.event t)
+  pub counters : IfSome told.counters (λ counters. HasWalked counters.items p.counter t)
   pub held : IfSome told.counters (λ counters. p.held ≡ told_before no_counts counters.items t)
 
 -- the difference of bit time t, in which the reference does this

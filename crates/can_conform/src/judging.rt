@@ -3,7 +3,7 @@ ghost use Rattle.std.specs.Prelude.{ℕ, ◌≡◌, ◌≢◌, ◌≤◌, ◌<�
 ghost use Rattle.can_conform.specs.Runs.{moment_at};
 ghost use Rattle.can_conform.specs.Transcripts.{no_counts, item_at, told_before, AgreesAt, AreRising, EndBefore, IsTold};
 ghost use Rattle.can_conform.specs.Verdicts.{IsVerdict};
-ghost use Rattle.can_conform.specs.Walks.{HasReached, IsDifferenceAt, IsReached, IsStanding};
+ghost use Rattle.can_conform.specs.Walks.{HasReached, HasWalked, IsDifferenceAt, IsStanding};
 
 use crate::bench::Bench;
 use crate::meeting::ending_of;
@@ -172,9 +172,9 @@ fn is_level(levels: &[Level], ought: Option<Level>, time: u32) -> bool
 /// Whether something of a list is told at this time, which the walk has reached.
 fn comes<T>(list: &Option<Vec<Timed<T>>>, place: usize, time: u32) -> bool
     requires rising { IfSome list.now (λ list. AreRising list.items) }
-    requires reached { IfSome list.now (λ list. IsReached list.items place time) }
+    requires reached { IfSome list.now (λ list. HasWalked list.items place time) }
     ensures none { result ≡ false → IfSome list.now (λ list. item_at list.items time ≡ None) }
-    ensures reached { result ≡ false → IfSome list.now (λ list. IsReached list.items place (time + 1)) }
+    ensures reached { result ≡ false → IfSome list.now (λ list. HasWalked list.items place (time + 1)) }
 {
     match list {
         Some(list) => is_next(list, place, time),
@@ -185,9 +185,9 @@ fn comes<T>(list: &Option<Vec<Timed<T>>>, place: usize, time: u32) -> bool
 /// Whether what stands at a place of a list is told at this time, which the walk has reached.
 fn is_next<T>(list: &[Timed<T>], place: usize, time: u32) -> bool
     requires rising { AreRising list.now }
-    requires reached { IsReached list.now place time }
+    requires reached { HasWalked list.now place time }
     ensures none { result ≡ false → item_at list.now time ≡ None }
-    ensures reached { result ≡ false → IsReached list.now place (time + 1) }
+    ensures reached { result ≡ false → HasWalked list.now place (time + 1) }
 {
     match list.get(place) {
         Some(next) => next.time == time,
@@ -216,11 +216,11 @@ fn event_difference(
     time: u32,
 ) -> Option<Difference>
     requires rising { IfSome events.now (λ events. AreRising events.items) }
-    requires reached { IfSome events.now (λ events. IsReached events.items progress.old.event time) }
+    requires reached { IfSome events.now (λ events. HasWalked events.items progress.old.event time) }
     ensures none { IsNone result → IfSome events.now (λ events. item_at events.items time ≡ ought) }
     ensures some { IfSome result (λ d. IsSomeAnd events.now (λ events. d ≡ Difference.Event (item_at events.items time) ought)) }
     ensures differs { IsSome result → IfSome events.now (λ events. item_at events.items time ≢ ought) }
-    ensures reached { IfSome events.now (λ events. IsReached events.items progress.new.event (time + 1)) }
+    ensures reached { IfSome events.now (λ events. HasWalked events.items progress.new.event (time + 1)) }
     ensures counter { progress.new.counter ≡ progress.old.counter }
     ensures held { progress.new.held ≡ progress.old.held }
 {
@@ -242,12 +242,12 @@ fn counters_difference(
     time: u32,
 ) -> Option<Difference>
     requires rising { IfSome counters.now (λ counters. AreRising counters.items) }
-    requires reached { IfSome counters.now (λ counters. IsReached counters.items progress.old.counter time) }
+    requires reached { IfSome counters.now (λ counters. HasWalked counters.items progress.old.counter time) }
     requires held { IfSome counters.now (λ counters. progress.old.held ≡ told_before no_counts counters.items time) }
     ensures none { IsNone result → IfSome counters.now (λ counters. told_before no_counts counters.items (time + 1) ≡ ought) }
     ensures some { IfSome result (λ d. IsSomeAnd counters.now (λ counters. d ≡ Difference.Counters (told_before no_counts counters.items (time + 1)) ought)) }
     ensures differs { IsSome result → IfSome counters.now (λ counters. told_before no_counts counters.items (time + 1) ≢ ought) }
-    ensures reached { IfSome counters.now (λ counters. IsReached counters.items progress.new.counter (time + 1)) }
+    ensures reached { IfSome counters.now (λ counters. HasWalked counters.items progress.new.counter (time + 1)) }
     ensures held { IfSome counters.now (λ counters. progress.new.held ≡ told_before no_counts counters.items (time + 1)) }
     ensures event { progress.new.event ≡ progress.old.event }
 {
@@ -265,11 +265,11 @@ fn counters_difference(
 #[tactic(auto, using(crate::proofs::TimedLemmas::told_before_more))]
 fn counters_told(counters: &[Timed<Counters>], progress: &mut Progress, time: u32) -> Counters
     requires rising { AreRising counters.now }
-    requires reached { IsReached counters.now progress.old.counter time }
+    requires reached { HasWalked counters.now progress.old.counter time }
     requires held { progress.old.held ≡ told_before no_counts counters.now time }
     ensures told { result ≡ told_before no_counts counters.now (time + 1) }
     ensures held { progress.new.held ≡ told_before no_counts counters.now (time + 1) }
-    ensures reached { IsReached counters.now progress.new.counter (time + 1) }
+    ensures reached { HasWalked counters.now progress.new.counter (time + 1) }
     ensures event { progress.new.event ≡ progress.old.event }
 {
     let next = next_at(counters, &mut progress.counter, time);
@@ -281,9 +281,9 @@ fn counters_told(counters: &[Timed<Counters>], progress: &mut Progress, time: u3
 /// What is told at this time, which the walk has reached.
 fn next_at<T: Copy>(list: &[Timed<T>], place: &mut usize, time: u32) -> Option<T>
     requires rising { AreRising list.now }
-    requires reached { IsReached list.now place.old time }
+    requires reached { HasWalked list.now place.old time }
     ensures told { result ≡ item_at list.now time }
-    ensures reached { IsReached list.now place.new (time + 1) }
+    ensures reached { HasWalked list.now place.new (time + 1) }
 {
     match list.get(*place) {
         Some(next) if next.time == time => {

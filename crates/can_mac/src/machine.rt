@@ -112,7 +112,7 @@ impl<B: FrameBits> MediumAccess<B> {
 
     /// Takes the level that the bus has in this bit time, where this frame waits to be sent: what is
     /// told. What the controller drove is what [`MediumAccess::drive`] answers for the same frame.
-    /// [`MediumAccess::passes`] takes most levels quicker.
+    /// Ports ask [`MediumAccess::takes_quietly`] first, which takes most levels quicker.
     #[tactic(auto, unfolding(crate::specs::Machine::mac_step))]
     pub fn sample(&mut self, waiting: Option<&Frame>, seen: Level) -> Option<Event>
         ensures state { self.new ≡ (mac_step self.old (option_copied waiting.entry) seen).0 }

@@ -6,6 +6,7 @@ use Rattle.std.specs.List.{list_any}
 use Rattle.std.specs.Ordering.{nat_cmp}
 use Rattle.std.specs.Str.{bytes_eq}
 use Rattle.std.proofs.Common.{◌≡◌, ℕ, ◌+◌, Bool, true, false, ◌||◌, cond, List, [], ◌∷◌, ◌++◌, refl, sym, ap, ◌∙◌}
+use Rattle.std.proofs.Math.Bool.{or-false}
 use Rattle.std.proofs.lemmas.Bool.Decides.{same_from_decides}
 use Rattle.std.proofs.lemmas.List.Folds.{list_any-append}
 use Rattle.std.proofs.lemmas.Map.Text.{is_eq-slice_cmp}
@@ -27,10 +28,6 @@ or_last true false = refl
 or_last false true = refl
 or_last false false = refl
 
-pub or_false : (b : Bool) → (b || false) ≡ b
-or_false true = refl
-or_false false = refl
-
 -- with the name of one case more
 pub names-more : (names more : BTreeSet (Bor (List ℕ))) (said : Bor (List ℕ)) (cases : List Data) (d : Data) → said.now ≡ case_name d
     → Updates (λ a b. slice_cmp nat_cmp a.now b.now) names more said true
@@ -42,5 +39,5 @@ names-more names more said cases d says updates before = λ text.
     ∙ or_last (same_key said.now text) _
     ∙ ap (λ b. b || same_key said.now text) (before text)
     ∙ ap (λ b. list_any test cases || b) here
-    ∙ ap (λ b. list_any test cases || b) (sym (or_false (test d)))
+    ∙ ap (λ b. list_any test cases || b) (sym (or-false (test d)))
     ∙ sym (list_any-append test cases (d ∷ []))

@@ -9,6 +9,7 @@ use Rattle.can_conform.specs.declared.script.Start.{Start}
 use Rattle.can_conform.specs.declared.script.Start.TheVariants.{Idle, Joining}
 use Rattle.can_conform.specs.declared.script.TesterLevel.{TesterLevel}
 use Rattle.can_conform.specs.declared.timed.Timed.{Timed}
+use Rattle.can_conform.proofs.TranscriptLemmas.{timed-is}
 use Rattle.document_values.specs.Values.{elements_in, named, two, IsRequired, SaysFrame}
 use Rattle.document_values.proofs.OneReading.{one-list, one-number, said-frame}
 use Rattle.kit_documents.specs.declared.cases.case.Case.{Case}
@@ -75,24 +76,19 @@ one-choices field a b x y = same_choices a b (sym x.said ∙ y.said)
 
 -- ---- what comes at its time
 
-pub same-timed : {A : Type 0} (a b : Timed A) → a.time ≡ b.time → a.told ≡ b.told → a ≡ b
-same-timed {A} a b times told =
-    let at : ℕ → A → Timed A = λ time x. record { time = time; told = x } in
-    ap (λ time. at time a.told) times ∙ ap (at b.time) told
-
 one-offer : (d : Data) (a b : Timed Parts) → SaysOffer d a → SaysOffer d b → a ≡ b
 one-offer d a b x y =
     let pairs : two (integer (pos a.time)) x.0 ≡ two (integer (pos b.time)) y.0 = sym x.1 ∙ y.1 in
     let frames : x.0 ≡ y.0 = cc in
     let times : a.time ≡ b.time = cc in
-    same-timed a b times (said-frame x.0 a.told b.told x.2 (subst (λ (e : Data). SaysFrame e b.told) (sym frames) y.2))
+    timed-is a b times (said-frame x.0 a.told b.told x.2 (subst (λ (e : Data). SaysFrame e b.told) (sym frames) y.2))
 
 one-hold : (d : Data) (a b : Timed ℕ) → SaysHold d a → SaysHold d b → a ≡ b
 one-hold d a b x y =
     let pairs : two (integer (pos a.time)) (integer (pos a.told)) ≡ two (integer (pos b.time)) (integer (pos b.told)) = sym x.0 ∙ y.0 in
     let times : a.time ≡ b.time = cc in
     let told : a.told ≡ b.told = cc in
-    same-timed a b times told
+    timed-is a b times told
 
 one-tester : (d : Data) (a b : List TesterLevel) → SaysTester d a → SaysTester d b → a ≡ b
 one-tester d a b x y =

@@ -4,6 +4,7 @@ use Rattle.toml.specs.Data.{Data, string, integer}
 use Rattle.can_conform.specs.declared.timed.Timed.{Timed}
 use Rattle.can_conform.specs.declared.transcript.Counters.{Counters}
 use Rattle.can_conform.specs.declared.transcript.Ending.{Ending}
+use Rattle.can_conform.proofs.TranscriptLemmas.{timed-is}
 use Rattle.can_mac.specs.declared.event.Event.{Event}
 use Rattle.can_fault.specs.declared.state.State.{State}
 use Rattle.can_fault.specs.Words.{state_word}
@@ -14,7 +15,6 @@ use Rattle.document_values.proofs.OneReading.{one-list, one-number}
 use Rattle.document_values.proofs.Pairs.{same-three}
 use Rattle.kit_documents.specs.Cases.{case_name}
 use Rattle.kit_documents.specs.CaseWords.{IsText}
-use Rattle.kit_documents.proofs.OneCase.{same-timed}
 use Rattle.kit_documents.proofs.TesterParts.{one-strings}
 use Rattle.kit_documents.specs.declared.transcripts.told.Told.{Told}
 use Rattle.kit_documents.specs.Elements.{SayCounters, SaysChange, SaysEnd, SaysEventAt, SaysIfThere}
@@ -33,7 +33,7 @@ one_event_at d a b x y =
     let pairs : two (integer (pos a.time)) (string x.0) ≡ two (integer (pos b.time)) (string y.0) = sym x.1 ∙ y.1 in
     let texts : x.0 ≡ y.0 = cc in
     let times : a.time ≡ b.time = cc in
-    same-timed a b times (one-event x.0 a.told b.told x.2 (subst (λ (text : List ℕ). SaysEvent text b.told) (sym texts) y.2))
+    timed-is a b times (one-event x.0 a.told b.told x.2 (subst (λ (text : List ℕ). SaysEvent text b.told) (sym texts) y.2))
 
 one_counters : (t r : Data) (a b : Counters) → SayCounters t r a → SayCounters t r b → a ≡ b
 one_counters t r a b x y =
@@ -50,7 +50,7 @@ one_three d first other t r u s a b x y says said =
 one_change : (d : Data) (a b : Timed Counters) → SaysChange d a → SaysChange d b → a ≡ b
 one_change d a b x y =
     let same = one_three d (integer (pos a.time)) (integer (pos b.time)) x.0 x.1 y.0 y.1 a.told b.told x.2 y.2 x.3 y.3 in
-    same-timed a b (one_time a.time b.time same.0) same.1
+    timed-is a b (one_time a.time b.time same.0) same.1
 
 one_end : (d : Data) (a b : Ending) → SaysEnd d a → SaysEnd d b → a ≡ b
 one_end d a b x y =

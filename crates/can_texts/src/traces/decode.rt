@@ -161,12 +161,12 @@ fn hear_gathered<W: Sink>(
     ensures failed { W.has_failed w.new ≡ is_err_by is_write result }
 {
     let gathered = gather(bytes, digits);
-    hear_run(&digits[..gathered.count], trace, w, out)?;
+    hear_to_end(&digits[..gathered.count], trace, w, out)?;
     Ok(gathered)
 }
 
 /// Hears the levels at the front of the bytes, up to a byte that is no digit, and answers how many.
-fn hear_run<W: Sink>(
+fn hear_to_end<W: Sink>(
     bytes: &[u8],
     trace: &mut Trace,
     w: &mut W,

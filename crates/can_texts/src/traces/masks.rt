@@ -4,7 +4,7 @@ ghost use Rattle.std.specs.Simd.Lanes.{mask_l};
 ghost use Rattle.can_texts.specs.TraceText.{IsTraceText, is_skipped as may_be_skipped};
 ghost use Rattle.can_texts.specs.Decoding.{AreDigits, AreSkipped};
 
-use std::simd::prelude::*;
+use can_code::places_of;
 
 /// How many bytes are looked at together: the bits of the masks, a number that the proofs have too.
 pub(crate) const BLOCK: usize = 16;
@@ -60,17 +60,6 @@ fn skipped_of(block: &[u8; BLOCK]) -> u64
     ensures small { result < 65536 }
 {
     places_of(block, b' ') + places_of(block, b'\n') + places_of(block, b'\r')
-}
-
-/// Where this byte stands in the block, as the bits of a number.
-#[inline]
-fn places_of(block: &[u8; BLOCK], byte: u8) -> u64
-    ensures places { result ≡ mask_l (map (λ other. other == byte) block.now) }
-    ensures small { result < 65536 }
-{
-    u8x16::from_array(*block)
-        .simd_eq(u8x16::splat(byte))
-        .to_bitmask()
 }
 
 /// Whether the byte is the digit of a level.

@@ -1,6 +1,6 @@
 use Rattle.std.proofs.Common.{◌∙◌, ap, arith, refl}
 use Rattle.can_frame.specs.Levels.{level_code}
-use Rattle.can_c.specs.Codes.{event_code}
+use Rattle.can_mac.specs.Codes.{event_code}
 use Rattle.can_c.proofs.RunLemmas.{all_passed, next_passed}
 use Rattle.can_c.proofs.bit_times.run_each.Goals as goal
 

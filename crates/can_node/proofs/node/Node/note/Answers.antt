@@ -7,3 +7,6 @@ returns-in-Some-Sent g c = search (port_logging_is, rules)
 
 pub returns-in-Some-Received : goal.returns-in-Some-Received
 returns-in-Some-Received g c = search (port_logging_is, rules)
+
+pub returns : goal.returns
+returns g c = search (port_logging_is, rules)

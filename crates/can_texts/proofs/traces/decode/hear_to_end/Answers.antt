@@ -3,7 +3,7 @@ use Rattle.std.proofs.lemmas.List.{take_rest}
 use Rattle.std.proofs.lemmas.Result.{err_from_is_err_and}
 use Rattle.can_texts.proofs.DecodeSteps.{HearsText-untold_part}
 use Rattle.can_texts.proofs.GatheredDigits.{FailsToHear-next, HearsText-digit, no_level}
-use Rattle.can_texts.proofs.traces.decode.hear_run.Goals as goal
+use Rattle.can_texts.proofs.traces.decode.hear_to_end.Goals as goal
 
 pub returns-in_err-hear_level-clause-err : goal.returns-in_err-hear_level-clause-err
 returns-in_err-hear_level-clause-err g c =

@@ -1,6 +1,6 @@
 use Rattle.std.proofs.Common.{◌≡◌, ◌+◌, ◌-◌, ◌≤◌, false, length, take}
 use Rattle.can_texts.specs.Decoding.{HearsText}
-use Rattle.can_texts.proofs.traces.decode.hear_run.Given as goal
+use Rattle.can_texts.proofs.traces.decode.hear_to_end.Given as goal
 
 abbrev pub invariant-loop-index : goal.invariant-loop-index
 invariant-loop-index g l =
