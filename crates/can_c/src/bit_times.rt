@@ -8,7 +8,7 @@ ghost use Rattle.can_c.specs.Statuses.{done, status_code};
 
 use crate::codes::event_code;
 use crate::controller::Controller;
-use crate::handle::Handle;
+use crate::handle::{Handle, with_port};
 use crate::plain::PlainFrame;
 use crate::status::Status;
 use can_frame::Level;
@@ -23,14 +23,10 @@ pub extern "C" fn can_c_drive(alloc: Global, handle: &mut Handle, level: &mut u8
     ensures unchanged { handle.new.held ≡ handle.old.held }
     ensures unwritten { result ≢ done → level.new ≡ level.old }
 {
-    match handle.take(alloc) {
-        None => Status::NoPort.code(),
-        Some(port) => {
-            *level = port.drive().code();
-            handle.put(alloc, port);
-            Status::Done.code()
-        }
-    }
+    with_port!(alloc, handle, |port| {
+        *level = port.drive().code();
+        Status::Done
+    })
 }
 
 /// Has the port sample the level that the bus has in this bit time, and writes the number of what it brought, and
@@ -51,14 +47,9 @@ pub extern "C" fn can_c_sample(
     ensures unchanged { result ≢ done → handle.new.held ≡ handle.old.held }
     ensures unwritten { result ≢ done → (event.new ≡ event.old) × (frame.new ≡ frame.old) }
 {
-    match handle.take(alloc) {
-        None => Status::NoPort.code(),
-        Some(mut port) => {
-            let status = sample(&mut port, level, event, frame);
-            handle.put(alloc, port);
-            status.code()
-        }
-    }
+    with_port!(alloc, handle, |port| {
+        sample(&mut port, level, event, frame)
+    })
 }
 
 /// Has a port sample a level, and writes what this brought.
@@ -110,14 +101,9 @@ pub extern "C" fn can_c_run(
     ensures unchanged { result ≢ done → handle.new.held ≡ handle.old.held }
     ensures unwritten { result ≢ done → (drives.new ≡ drives.old) × (events.new ≡ events.old) }
 {
-    match handle.take(alloc) {
-        None => Status::NoPort.code(),
-        Some(mut port) => {
-            let status = run(&mut port, levels, drives, events);
-            handle.put(alloc, port);
-            status.code()
-        }
-    }
+    with_port!(alloc, handle, |port| {
+        run(&mut port, levels, drives, events)
+    })
 }
 
 /// Has a port sample levels, and writes what it drove and told.
