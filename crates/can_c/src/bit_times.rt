@@ -48,12 +48,12 @@ pub extern "C" fn can_c_sample(
     ensures unwritten { result ≢ done → (event.new ≡ event.old) × (frame.new ≡ frame.old) }
 {
     with_port!(alloc, handle, |port| {
-        sample(&mut port, level, event, frame)
+        sample_code(&mut port, level, event, frame)
     })
 }
 
 /// Has a port sample a level, and writes what this brought.
-fn sample(port: &mut Controller, level: u8, event: &mut u8, frame: &mut PlainFrame) -> Status
+fn sample_code(port: &mut Controller, level: u8, event: &mut u8, frame: &mut PlainFrame) -> Status
     ensures status { result ≡ sample_status (Some port.old) level }
     ensures step { result ≡ Status.Done → port.new ≡ port_step port.old (level_of level) }
     ensures event { result ≡ Status.Done → event.new ≡ event_code_of (port_event port.old (level_of level)) }
@@ -102,12 +102,12 @@ pub extern "C" fn can_c_run(
     ensures unwritten { result ≢ done → (drives.new ≡ drives.old) × (events.new ≡ events.old) }
 {
     with_port!(alloc, handle, |port| {
-        run(&mut port, levels, drives, events)
+        run_codes(&mut port, levels, drives, events)
     })
 }
 
 /// Has a port sample levels, and writes what it drove and told.
-fn run(port: &mut Controller, levels: &[u8], drives: &mut [u8], events: &mut [u8]) -> Status
+fn run_codes(port: &mut Controller, levels: &[u8], drives: &mut [u8], events: &mut [u8]) -> Status
     ensures status { result ≡ run_status (Some port.old) levels.now drives.old events.old }
     ensures run { result ≡ Status.Done → port.new ≡ port_run port.old (levels_of_codes levels.now) }
     ensures drives { result ≡ Status.Done → drives.new ≡ map level_code (drives_over port.old (levels_of_codes levels.now)) }
