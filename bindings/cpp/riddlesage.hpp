@@ -257,6 +257,13 @@ namespace detail {
   return reinterpret_cast<const std::uint8_t *>(of.data());
 }
 
+/// The same for calls that take no null pointer: of no levels a place from which nothing is read.
+[[nodiscard]] inline const std::uint8_t *front_of(std::span<const Level> of) noexcept
+{
+  static constexpr std::uint8_t nothing = 0;
+  return of.empty() ? &nothing : bytes_of(of);
+}
+
 [[nodiscard]] inline std::uint8_t *room_of(std::span<Level> of) noexcept
 {
   return reinterpret_cast<std::uint8_t *>(of.data());
@@ -567,11 +574,9 @@ private:
 /// What is heard of the frame at the front of the levels; or the fault where no frame stands there.
 [[nodiscard]] inline std::variant<Heard, Fault> decode(std::span<const Level> levels) noexcept
 {
-  constexpr std::uint8_t nothing = 0;
   riddlesage_heard heard{};
   std::size_t place = 0;
-  const std::uint8_t *const at = levels.empty() ? &nothing : detail::bytes_of(levels);
-  const riddlesage_status status = riddlesage_decode(at, levels.size(), &heard, &place);
+  const riddlesage_status status = riddlesage_decode(detail::front_of(levels), levels.size(), &heard, &place);
   if (status != RIDDLESAGE_OK)
     return Fault{detail::status_of(status), place};
   const auto level = [](std::uint8_t number) { return static_cast<Level>(number); };
@@ -635,8 +640,7 @@ template <typename Call> [[nodiscard]] Written written(const Call &call)
 /// and no_room where they have more than RIDDLESAGE_MOST_TEXT bytes.
 [[nodiscard]] inline Written decode_levels(std::span<const Level> levels)
 {
-  constexpr std::uint8_t nothing = 0;
-  const std::uint8_t *const at = levels.empty() ? &nothing : detail::bytes_of(levels);
+  const std::uint8_t *const at = detail::front_of(levels);
   return detail::written([&](Written &to, std::size_t *count) {
     return riddlesage_decode_levels(at, levels.size(), to.text.data(), to.text.size(), count, &to.place);
   });

@@ -1,37 +1,10 @@
 /*
- * Misuse of every call: NULL pointers, ports that are not made, freed, freed twice, copied, not begun as zeros; frames,
- * levels, counts and numbers that are none; lists that are too short or empty; more memory than there is. Each is
- * refused by its name, and changes nothing. It is run under AddressSanitizer and under valgrind.
+ * Misuse of every call but those of misuse_of_buses.c: NULL pointers, ports that are not made, freed, freed twice,
+ * copied, not begun as zeros; frames, levels, counts and numbers that are none; lists that are too short or empty; more
+ * memory than there is. Each is refused by its name, and changes nothing. It is run under AddressSanitizer and under
+ * valgrind.
  */
-#include "riddlesage.h"
-
-#include <stdio.h>
-#include <stdlib.h>
-#include <string.h>
-
-static unsigned tried, wrong;
-
-#define WANT(status, call) want(RIDDLESAGE_##status, (call), #call, __LINE__)
-
-static void want(riddlesage_status wanted, riddlesage_status given, const char *call, int line)
-{
-  tried++;
-  if (wanted == given)
-    return;
-  wrong++;
-  printf("line %d: %s: %s and not %s\n", line, call, riddlesage_status_name(given), riddlesage_status_name(wanted));
-}
-
-static void want_same(const void *one, const void *other, size_t size, int line)
-{
-  tried++;
-  if (memcmp(one, other, size) == 0)
-    return;
-  wrong++;
-  printf("line %d: something has changed\n", line);
-}
-
-#define WANT_SAME(one, other) want_same(&(one), &(other), sizeof(one), __LINE__)
+#include "misuse.h"
 
 /* What is written by calls that are not refused. */
 static riddlesage_frame frame, told;
@@ -208,68 +181,95 @@ static void behind_the_longest(void)
   WANT(BAD_LEVEL, riddlesage_decode(in, sizeof in, &heard, &place));
 }
 
-static void handles(void)
+static void never_made(riddlesage_port *port)
 {
-  riddlesage_port port = RIDDLESAGE_PORT_INIT, zeros, copy, garbage;
+  riddlesage_port zeros, garbage;
 
   memset(&zeros, 0, sizeof zeros);
   memset(&garbage, 0xa5, sizeof garbage);
-  call_all(&port, RIDDLESAGE_NO_PORT);
+  call_all(port, RIDDLESAGE_NO_PORT);
   call_all(&zeros, RIDDLESAGE_NO_PORT);
-  WANT(OK, riddlesage_port_free(&port));
+  WANT(OK, riddlesage_port_free(port));
   call_all(&garbage, RIDDLESAGE_MOVED);
   WANT(MOVED, riddlesage_port_idle(&garbage, 1, 1));
   WANT(MOVED, riddlesage_port_free(&garbage));
+}
 
-  WANT(OK, riddlesage_port_idle(&port, 1, 1));
+static void copied_as_a_struct(riddlesage_port *port)
+{
+  riddlesage_port copy;
+
+  WANT(OK, riddlesage_port_idle(port, 1, 1));
   count = 9;
-  WANT(OK, riddlesage_port_log_length(&port, &count));
+  WANT(OK, riddlesage_port_log_length(port, &count));
   want(count == 0 ? RIDDLESAGE_OK : RIDDLESAGE_NO_ENTRY, RIDDLESAGE_OK, "the log of a new port", __LINE__);
-  copy = port;
+  copy = *port;
   call_all(&copy, RIDDLESAGE_MOVED);
   WANT(MOVED, riddlesage_port_joining(&copy, 1, 1));
   WANT(MOVED, riddlesage_port_free(&copy));
-  WANT(OK, riddlesage_port_free(&port));
-  WANT(OK, riddlesage_port_free(&port));
-  call_all(&port, RIDDLESAGE_NO_PORT);
+  WANT(OK, riddlesage_port_free(port));
+  WANT(OK, riddlesage_port_free(port));
+  call_all(port, RIDDLESAGE_NO_PORT);
   call_all(&copy, RIDDLESAGE_MOVED);
+}
 
-  /* made again over a port that is there, and over one that was freed */
-  WANT(OK, riddlesage_port_joining(&port, 2, 2));
-  WANT(OK, riddlesage_port_idle(&port, 1, 1));
-  call_all(&port, RIDDLESAGE_OK);
-  WANT(QUEUE_FULL, riddlesage_port_offer(&port, &frame));
-  WANT(NO_MEMORY, riddlesage_port_idle(&port, SIZE_MAX, 0));
-  WANT(NO_MEMORY, riddlesage_port_joining(&port, 0, SIZE_MAX));
-  WANT(NO_MEMORY, riddlesage_port_idle(&port, SIZE_MAX / 16, SIZE_MAX / 16));
-  WANT(QUEUE_FULL, riddlesage_port_offer(&port, &frame));
-  WANT(OK, riddlesage_port_free(&port));
+/* Over one that was freed, and over a port that is there. */
+static void made_again(riddlesage_port *freed)
+{
+  WANT(OK, riddlesage_port_joining(freed, 2, 2));
+  WANT(OK, riddlesage_port_idle(freed, 1, 1));
+  call_all(freed, RIDDLESAGE_OK);
+  WANT(QUEUE_FULL, riddlesage_port_offer(freed, &frame));
+  WANT(NO_MEMORY, riddlesage_port_idle(freed, SIZE_MAX, 0));
+  WANT(NO_MEMORY, riddlesage_port_joining(freed, 0, SIZE_MAX));
+  WANT(NO_MEMORY, riddlesage_port_idle(freed, SIZE_MAX / 16, SIZE_MAX / 16));
+  WANT(QUEUE_FULL, riddlesage_port_offer(freed, &frame));
+  WANT(OK, riddlesage_port_free(freed));
+}
 
-  /* copied over nothing, over itself, from what is none */
-  WANT(OK, riddlesage_port_idle(&port, 1, 1));
-  WANT(OK, riddlesage_port_copy(&zeros, &port));
+/* Over nothing, over itself, from what is none. */
+static void copied(riddlesage_port *port)
+{
+  riddlesage_port zeros, copy;
+
+  memset(&zeros, 0, sizeof zeros);
+  WANT(OK, riddlesage_port_idle(port, 1, 1));
+  WANT(OK, riddlesage_port_copy(&zeros, port));
   WANT(OK, riddlesage_port_offer(&zeros, &frame));
   WANT(QUEUE_FULL, riddlesage_port_offer(&zeros, &frame));
   WANT(OK, riddlesage_port_copy(&zeros, &zeros));
   WANT(QUEUE_FULL, riddlesage_port_offer(&zeros, &frame));
-  WANT(OK, riddlesage_port_copy(&port, &zeros));
-  WANT(QUEUE_FULL, riddlesage_port_offer(&port, &frame));
-  copy = port;
-  WANT(MOVED, riddlesage_port_copy(&copy, &port));
-  WANT(MOVED, riddlesage_port_copy(&port, &copy));
+  WANT(OK, riddlesage_port_copy(port, &zeros));
+  WANT(QUEUE_FULL, riddlesage_port_offer(port, &frame));
+  copy = *port;
+  WANT(MOVED, riddlesage_port_copy(&copy, port));
+  WANT(MOVED, riddlesage_port_copy(port, &copy));
   WANT(OK, riddlesage_port_free(&zeros));
-  WANT(NO_PORT, riddlesage_port_copy(&port, &zeros));
+  WANT(NO_PORT, riddlesage_port_copy(port, &zeros));
   WANT(NO_PORT, riddlesage_port_copy(&zeros, &zeros));
-  WANT(NULL_POINTER, riddlesage_port_copy(NULL, &port));
-  WANT(NULL_POINTER, riddlesage_port_copy(&port, NULL));
-  WANT(QUEUE_FULL, riddlesage_port_offer(&port, &frame));
-  WANT(OK, riddlesage_port_free(&port));
+  WANT(NULL_POINTER, riddlesage_port_copy(NULL, port));
+  WANT(NULL_POINTER, riddlesage_port_copy(port, NULL));
+  WANT(QUEUE_FULL, riddlesage_port_offer(port, &frame));
+  WANT(OK, riddlesage_port_free(port));
+}
 
-  /* no room at all */
-  WANT(OK, riddlesage_port_idle(&port, 0, 0));
-  WANT(QUEUE_FULL, riddlesage_port_offer(&port, &frame));
-  WANT(NO_ENTRY, riddlesage_port_entry(&port, 0, &told, &sent));
-  WANT(OK, riddlesage_port_free(&port));
+static void without_room(riddlesage_port *port)
+{
+  WANT(OK, riddlesage_port_idle(port, 0, 0));
+  WANT(QUEUE_FULL, riddlesage_port_offer(port, &frame));
+  WANT(NO_ENTRY, riddlesage_port_entry(port, 0, &told, &sent));
+  WANT(OK, riddlesage_port_free(port));
+}
+
+static void handles(void)
+{
+  riddlesage_port port = RIDDLESAGE_PORT_INIT;
+
+  never_made(&port);
+  copied_as_a_struct(&port);
+  made_again(&port);
+  copied(&port);
+  without_room(&port);
 }
 
 /* Ports that the library keeps, made or not, and copies of them. */
@@ -378,158 +378,6 @@ static void traces_of_levels(void)
   }
 }
 
-/* Ports of a bus that are none, too many, or there twice; offers and hits that are none, out of order, or of no port. */
-static void bad_buses(void)
-{
-  static const riddlesage_frame none[] = {
-    { 0, 2, 0, 0, { 0 } }, { 0x800, 0, 0, 0, { 0 } }, { 0, 0, 0, 16, { 0 } },
-  };
-  static const riddlesage_status why[] = { RIDDLESAGE_BAD_FLAG, RIDDLESAGE_BAD_IDENTIFIER, RIDDLESAGE_BAD_DLC };
-  static const riddlesage_hit sound[] = { { 1, 0, 0, 0, RIDDLESAGE_HIT_AT }, { 0, 0, 3, 0, RIDDLESAGE_HIT_IN },
-                                          { 2, 0, 0, 1, RIDDLESAGE_HIT_VIEW } };
-  riddlesage_port one = RIDDLESAGE_PORT_INIT, other = RIDDLESAGE_PORT_INIT, unmade = RIDDLESAGE_PORT_INIT, copy;
-  riddlesage_port *ports[RIDDLESAGE_MOST_PORTS + 1] = { &one, &other };
-  riddlesage_offer offers[2] = { { 0, 0, { 0x123, 0, 0, 0, { 0 } } }, { 0, 1, { 0x124, 0, 0, 0, { 0 } } } };
-  riddlesage_hit hits[3];
-  uint8_t bus[4] = { 7, 7, 7, 7 }, before[4] = { 7, 7, 7, 7 };
-  size_t many = 99, row;
-
-#define PLAY(count, offer_count, hit_count) \
-  riddlesage_play(ports, count, offers, offer_count, hits, hit_count, bus, sizeof bus, &many)
-
-  memcpy(hits, sound, sizeof hits);
-  WANT(OK, riddlesage_port_idle(&one, 1, 4));
-  WANT(OK, riddlesage_port_idle(&other, 1, 4));
-  WANT(NULL_POINTER, riddlesage_play(NULL, 2, offers, 2, hits, 3, bus, sizeof bus, &many));
-  WANT(NULL_POINTER, riddlesage_play(ports, 2, NULL, 2, hits, 3, bus, sizeof bus, &many));
-  WANT(NULL_POINTER, riddlesage_play(ports, 2, offers, 2, NULL, 3, bus, sizeof bus, &many));
-  WANT(NULL_POINTER, riddlesage_play(ports, 2, offers, 2, hits, 3, NULL, sizeof bus, &many));
-  WANT(BAD_BUS, PLAY(0, 2, 3));
-  WANT(BAD_BUS, PLAY(RIDDLESAGE_MOST_PORTS + 1, 2, 3));
-  WANT(BAD_BUS, PLAY(SIZE_MAX, 2, 3));
-  WANT(NULL_POINTER, PLAY(3, 2, 3));
-  copy = one;
-  ports[2] = &unmade;
-  WANT(NO_PORT, PLAY(3, 2, 3));
-  ports[2] = &copy;
-  WANT(MOVED, PLAY(3, 2, 3));
-  ports[2] = &one;
-  WANT(BAD_BUS, PLAY(3, 2, 3));
-  for (row = 0; row < sizeof none / sizeof none[0]; row++) {
-    offers[1].frame = none[row];
-    want(why[row], PLAY(2, 2, 3), "an offer of no frame", (int)row);
-  }
-  offers[1].frame = offers[0].frame;
-  for (row = 3; row <= UINT8_MAX; row++) {
-    hits[2].kind = (uint8_t)row;
-    want(RIDDLESAGE_BAD_KIND, PLAY(2, 2, 3), "a hit of no kind", (int)row);
-  }
-  hits[2] = sound[2];
-  offers[0].time = 1;
-  WANT(BAD_ORDER, PLAY(2, 2, 3));
-  offers[1].time = UINT64_MAX;
-  offers[1].port = 2;
-  WANT(NO_SUCH_PORT, PLAY(2, 2, 3));
-  offers[1].port = SIZE_MAX;
-  WANT(NO_SUCH_PORT, PLAY(2, 2, 3));
-  hits[2].port = 2;
-  WANT(NO_SUCH_PORT, PLAY(2, 0, 3));
-  hits[2] = hits[1];
-  WANT(BAD_ORDER, PLAY(2, 0, 3));
-  hits[1] = sound[2];
-  WANT(BAD_ORDER, PLAY(2, 0, 3));
-  WANT_SAME(before, bus);
-  want(many == 99 ? RIDDLESAGE_OK : RIDDLESAGE_QUEUE_FULL, RIDDLESAGE_OK, "refused is written", __LINE__);
-#undef PLAY
-
-  /* nothing has run, and both queues have room; a third frame has none */
-  WANT(OK, riddlesage_play(ports, 2, NULL, 0, NULL, 0, NULL, 0, NULL));
-  offers[0].time = offers[1].time = offers[1].port = 0;
-  WANT(OK, riddlesage_play(ports, 2, offers, 2, NULL, 0, bus, 1, &many));
-  want(many == 1 && bus[0] == 0 && bus[1] == 7 ? RIDDLESAGE_OK : RIDDLESAGE_QUEUE_FULL, RIDDLESAGE_OK, "a start",
-       __LINE__);
-  WANT(QUEUE_FULL, riddlesage_port_offer(&one, &frame));
-  WANT(OK, riddlesage_port_offer(&other, &frame));
-  WANT(OK, riddlesage_port_free(&one));
-  WANT(OK, riddlesage_port_free(&other));
-}
-
-static void bad_wires(void)
-{
-  /* until_rest, start, attempts and time: one beyond the greatest of each */
-  static const riddlesage_wire none[] = {
-    { 0, 0, 0, 12 },         { 0, 0, 0, 255 },        { 0, 1, 0, 0 },  { 5, 1, 5, 0 },
-    { 5, 1, UINT64_MAX, 0 }, { 5, 4, 2, 0 },          { 5, UINT64_MAX, 4, 0 },
-    { UINT64_MAX, 0, 0, 0 }, { UINT64_MAX, 1, 1, 0 },
-  };
-  /* and the greatest themselves */
-  static const riddlesage_wire some[] = {
-    { 0, 0, 0, 11 },
-    { 0, 0, UINT64_MAX, 0 },
-    { 5, 5, 4, 0 },
-    { UINT64_MAX - 1, UINT64_MAX - 1, UINT64_MAX - 2, 11 },
-  };
-  const riddlesage_hit sound[] = { { 0, 0, 3, 0, RIDDLESAGE_HIT_IN }, { 2, 0, 0, 1, RIDDLESAGE_HIT_VIEW } };
-  static const riddlesage_wire fresh = RIDDLESAGE_WIRE_INIT;
-  riddlesage_wire wire;
-  riddlesage_hit hits[2];
-  uint8_t given[2] = { 1, 0 }, seen[2] = { 7, 7 }, unseen[2] = { 7, 7 }, bus = 7, unwritten = 7;
-  size_t row;
-
-  memcpy(&wire, &fresh, sizeof wire);
-  memcpy(hits, sound, sizeof hits);
-  WANT(NULL_POINTER, riddlesage_wire_step(NULL, given, 2, hits, 2, &bus, seen));
-  WANT(NULL_POINTER, riddlesage_wire_step(&wire, NULL, 2, hits, 2, &bus, seen));
-  WANT(NULL_POINTER, riddlesage_wire_step(&wire, given, 2, NULL, 2, &bus, seen));
-  WANT(NULL_POINTER, riddlesage_wire_step(&wire, given, 2, hits, 2, NULL, seen));
-  for (row = 0; row < sizeof none / sizeof none[0]; row++) {
-    memcpy(&wire, &none[row], sizeof wire); /* what lies between its fields too */
-    want(RIDDLESAGE_BAD_WIRE, riddlesage_wire_step(&wire, given, 2, hits, 2, &bus, seen), "no wire", (int)row);
-    WANT_SAME(none[row], wire);
-  }
-  memcpy(&wire, &fresh, sizeof wire);
-  for (row = 2; row <= UINT8_MAX; row++) {
-    given[1] = (uint8_t)row;
-    want(RIDDLESAGE_BAD_LEVEL, riddlesage_wire_step(&wire, given, 2, hits, 2, &bus, seen), "no level", (int)row);
-  }
-  given[1] = 0;
-  for (row = 3; row <= UINT8_MAX; row++) {
-    hits[0].kind = (uint8_t)row;
-    want(RIDDLESAGE_BAD_KIND, riddlesage_wire_step(&wire, given, 2, hits, 2, &bus, seen), "no kind", (int)row);
-  }
-  hits[0] = sound[0];
-  WANT(NO_SUCH_PORT, riddlesage_wire_step(&wire, given, 1, hits, 2, &bus, seen));
-  WANT(NO_SUCH_PORT, riddlesage_wire_step(&wire, NULL, 0, hits, 2, &bus, NULL));
-  hits[1].port = SIZE_MAX;
-  WANT(NO_SUCH_PORT, riddlesage_wire_step(&wire, given, 2, hits, 2, &bus, seen));
-  hits[1].kind = 9;
-  WANT(BAD_KIND, riddlesage_wire_step(&wire, given, 2, hits, 2, &bus, seen));
-  WANT_SAME(fresh, wire);
-  WANT_SAME(unseen, seen);
-  WANT_SAME(unwritten, bus);
-
-  for (row = 0; row < sizeof some / sizeof some[0]; row++) {
-    wire = some[row];
-    want(RIDDLESAGE_OK, riddlesage_wire_step(&wire, NULL, 0, NULL, 0, &bus, NULL), "a wire", (int)row);
-    want(wire.time == some[row].time + 1 && bus == 1 ? RIDDLESAGE_OK : RIDDLESAGE_BAD_WIRE, RIDDLESAGE_OK, "passes",
-         (int)row);
-  }
-  /* nobody sees more than he was asked for, and hits may stand in any order */
-  wire = fresh;
-  hits[0] = sound[1];
-  hits[0].time = 0;
-  hits[0].port = 0;
-  hits[1] = sound[0];
-  hits[1].offset = 0;
-  seen[1] = 9;
-  WANT(OK, riddlesage_wire_step(&wire, &given[1], 1, hits, 2, &bus, seen));
-  want(bus == 1 && seen[0] == 0 && seen[1] == 9 && wire.time == 1 && wire.attempts == 1 && wire.start == 0 &&
-               wire.until_rest == 0
-           ? RIDDLESAGE_OK
-           : RIDDLESAGE_BAD_WIRE,
-       RIDDLESAGE_OK, "an attempt that is hit at its start", __LINE__);
-}
-
 int main(void)
 {
   riddlesage_port port = RIDDLESAGE_PORT_INIT;
@@ -550,12 +398,9 @@ int main(void)
   bad_scenarios();
   texts();
   traces_of_levels();
-  bad_buses();
-  bad_wires();
   WANT(OK, riddlesage_port_free(&port));
   if (riddlesage_status_name((riddlesage_status)26) != NULL || riddlesage_event_name((riddlesage_event)12) != NULL ||
       riddlesage_phase_name((riddlesage_phase)15) != NULL || riddlesage_rule_name((riddlesage_rule)17) != NULL)
     wrong++;
-  printf("%u of %u refused or taken as they should be\n", tried - wrong, tried);
-  return wrong == 0 ? EXIT_SUCCESS : EXIT_FAILURE;
+  return ended();
 }

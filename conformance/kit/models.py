@@ -10,7 +10,8 @@ from typing import Iterable, Protocol, Sequence
 
 REPOSITORY = os.path.dirname(os.path.dirname(os.path.dirname(os.path.realpath(__file__))))
 CONTROLLER = "conformance/adapters/controller"
-SIMULATOR = ("bench/machine.rs", "conformance/adapters/simulator.rs")
+SIMULATOR = ("bench/machine.rs", "bench/frames.rs")
+ADAPTER = "conformance/adapters/simulator.rs"
 
 
 class Patch(Protocol):
@@ -106,8 +107,8 @@ class RustModel(Model):
     """The plain simulator in Rust."""
 
     def _compile(self, texts: dict[str, str], folder: str, program: str) -> None:
-        _write(_read(SIMULATOR[1:]), folder)
-        _run(["rustc", "-A", "warnings", "-o", program, os.path.join(folder, SIMULATOR[1])])
+        _write(_read([ADAPTER]), folder)
+        _run(["rustc", "-A", "warnings", "-o", program, os.path.join(folder, ADAPTER)])
 
 
 def controller() -> CModel:
@@ -118,4 +119,4 @@ def controller() -> CModel:
 
 def simulator() -> RustModel:
     """The plain simulator in Rust, as it is."""
-    return RustModel("simulator", _read(SIMULATOR[:1]))
+    return RustModel("simulator", _read(SIMULATOR))

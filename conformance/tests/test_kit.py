@@ -2,7 +2,6 @@
 
 from __future__ import annotations
 
-import glob
 import os
 import unittest
 
@@ -15,6 +14,7 @@ from kit.levels import read_levels, write_levels
 from kit.library import FOLDER, read_library
 from kit.matrix import caught_by, cover, idle_cases, matrix, reason_faults
 from kit.mistakes import Mistake, read_mistakes
+from kit.models import controller, simulator
 from kit.playing import cuts
 from kit.reports import window_lines
 from kit.session import Session
@@ -193,15 +193,10 @@ class Changes(unittest.TestCase):
 
 class Mistakes(unittest.TestCase):
     def test_every_mistake_fits_its_source(self) -> None:
-        sources = {"controller": "adapters/controller/*.[ch]", "simulator": "../bench/machine.rs"}
-        for name, pattern in sources.items():
-            texts = {}
-            for path in glob.glob(os.path.join(TOP, pattern)):
-                with open(path, encoding="utf-8") as file:
-                    texts[path] = file.read()
-            with open(os.path.join(TOP, "mistakes", f"{name}.txt"), encoding="utf-8") as file:
-                for mistake in read_mistakes(file.read(), name):
-                    self.assertNotEqual(mistake.applied(texts), texts)
+        for model in (controller(), simulator()):
+            with open(os.path.join(TOP, "mistakes", f"{model.name}.txt"), encoding="utf-8") as file:
+                for mistake in read_mistakes(file.read(), model.name):
+                    self.assertNotEqual(mistake.applied(model.texts), model.texts)
 
 
 if __name__ == "__main__":

@@ -8,7 +8,7 @@ ghost use Rattle.can_c.specs.Statuses.{done, status_code};
 
 use crate::codes::event_code;
 use crate::controller::Controller;
-use crate::handle::Handle;
+use crate::handle::{Handle, with_port};
 use crate::plain::PlainFrame;
 use crate::status::Status;
 use can_frame::Level;
@@ -23,14 +23,10 @@ pub extern "C" fn can_c_drive(alloc: Global, handle: &mut Handle, level: &mut u8
     ensures unchanged { handle.new.held ≡ handle.old.held }
     ensures unwritten { result ≢ done → level.new ≡ level.old }
 {
-    match handle.take(alloc) {
-        None => Status::NoPort.code(),
-        Some(port) => {
-            *level = port.drive().code();
-            handle.put(alloc, port);
-            Status::Done.code()
-        }
-    }
+    with_port!(alloc, handle, |port| {
+        *level = port.drive().code();
+        Status::Done
+    })
 }
 
 /// Has the port sample the level that the bus has in this bit time, and writes the number of what it brought, and
@@ -51,18 +47,13 @@ pub extern "C" fn can_c_sample(
     ensures unchanged { result ≢ done → handle.new.held ≡ handle.old.held }
     ensures unwritten { result ≢ done → (event.new ≡ event.old) × (frame.new ≡ frame.old) }
 {
-    match handle.take(alloc) {
-        None => Status::NoPort.code(),
-        Some(mut port) => {
-            let status = sample(&mut port, level, event, frame);
-            handle.put(alloc, port);
-            status.code()
-        }
-    }
+    with_port!(alloc, handle, |port| {
+        sample_code(&mut port, level, event, frame)
+    })
 }
 
 /// Has a port sample a level, and writes what this brought.
-fn sample(port: &mut Controller, level: u8, event: &mut u8, frame: &mut PlainFrame) -> Status
+fn sample_code(port: &mut Controller, level: u8, event: &mut u8, frame: &mut PlainFrame) -> Status
     ensures status { result ≡ sample_status (Some port.old) level }
     ensures step { result ≡ Status.Done → port.new ≡ port_step port.old (level_of level) }
     ensures event { result ≡ Status.Done → event.new ≡ event_code_of (port_event port.old (level_of level)) }
@@ -110,18 +101,13 @@ pub extern "C" fn can_c_run(
     ensures unchanged { result ≢ done → handle.new.held ≡ handle.old.held }
     ensures unwritten { result ≢ done → (drives.new ≡ drives.old) × (events.new ≡ events.old) }
 {
-    match handle.take(alloc) {
-        None => Status::NoPort.code(),
-        Some(mut port) => {
-            let status = run(&mut port, levels, drives, events);
-            handle.put(alloc, port);
-            status.code()
-        }
-    }
+    with_port!(alloc, handle, |port| {
+        run_codes(&mut port, levels, drives, events)
+    })
 }
 
 /// Has a port sample levels, and writes what it drove and told.
-fn run(port: &mut Controller, levels: &[u8], drives: &mut [u8], events: &mut [u8]) -> Status
+fn run_codes(port: &mut Controller, levels: &[u8], drives: &mut [u8], events: &mut [u8]) -> Status
     ensures status { result ≡ run_status (Some port.old) levels.now drives.old events.old }
     ensures run { result ≡ Status.Done → port.new ≡ port_run port.old (levels_of_codes levels.now) }
     ensures drives { result ≡ Status.Done → drives.new ≡ map level_code (drives_over port.old (levels_of_codes levels.now)) }

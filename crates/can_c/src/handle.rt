@@ -8,6 +8,24 @@ use std::marker::Model;
 use std::mem;
 use std::ptr::null_mut;
 
+/// Does this with the port of a handle, puts it back, and gives the number of the status that this comes to; without a
+/// port that of [`Status::NoPort`]. It's no function of a closure, as that could not promise that nothing is written
+/// where the closure isn't called.
+macro_rules! with_port {
+    ($alloc:expr, $handle:expr, |$port:ident| $work:expr) => {
+        match $handle.take($alloc) {
+            None => Status::NoPort.code(),
+            Some(mut $port) => {
+                let status: Status = $work;
+                $handle.put($alloc, $port);
+                status.code()
+            }
+        }
+    };
+}
+
+pub(crate) use with_port;
+
 /// A controller on the heap, or none, as code that is not Rattle keeps it. All bytes 0 is a handle of none.
 /// It is linear: what it holds can't be let go by chance.
 #[repr(C)]

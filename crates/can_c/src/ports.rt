@@ -6,7 +6,7 @@ ghost use Rattle.can_c.specs.PlainFrames.{frame_of_plain};
 ghost use Rattle.can_c.specs.Statuses.{done, status_code};
 
 use crate::controller::Controller;
-use crate::handle::Handle;
+use crate::handle::{Handle, with_port};
 use crate::plain::PlainFrame;
 use crate::status::Status;
 use std::alloc::Global;
@@ -99,14 +99,7 @@ pub extern "C" fn can_c_offer(alloc: Global, handle: &mut Handle, frame: &PlainF
     ensures offered { result ≡ done → handle.new.held ≡ option_map (port_offered (frame_of_plain frame.now)) handle.old.held }
     ensures unchanged { result ≢ done → handle.new.held ≡ handle.old.held }
 {
-    match handle.take(alloc) {
-        None => Status::NoPort.code(),
-        Some(mut port) => {
-            let status = offer(&mut port, frame);
-            handle.put(alloc, port);
-            status.code()
-        }
-    }
+    with_port!(alloc, handle, |port| offer(&mut port, frame))
 }
 
 /// Offers a frame at a port.
@@ -131,16 +124,11 @@ pub extern "C" fn can_c_hold(alloc: Global, handle: &mut Handle, count: u8) -> u
     ensures held { result ≡ done → handle.new.held ≡ option_map (port_holding count) handle.old.held }
     ensures unchanged { result ≢ done → handle.new.held ≡ handle.old.held }
 {
-    match handle.take(alloc) {
-        None => Status::NoPort.code(),
-        Some(mut port) => {
-            let asked = port.hold(count);
-            handle.put(alloc, port);
-            if asked {
-                Status::Done.code()
-            } else {
-                Status::BadCount.code()
-            }
+    with_port!(alloc, handle, |port| {
+        if port.hold(count) {
+            Status::Done
+        } else {
+            Status::BadCount
         }
-    }
+    })
 }

@@ -4,7 +4,7 @@ ghost use Rattle.can_c.specs.Calls.{port_status};
 ghost use Rattle.can_c.specs.PlainStandings.{part_code as part_code_of, phase_code, phase_place, plain_standing, rule_code as rule_code_of};
 ghost use Rattle.can_c.specs.Statuses.{done, status_code};
 
-use crate::handle::Handle;
+use crate::handle::{Handle, with_port};
 use crate::status::Status;
 use can_conform::{Rule, phase_rule};
 use can_mac::{PackedMac, Phase, Role};
@@ -37,14 +37,10 @@ pub extern "C" fn can_c_phase(
     ensures unchanged { handle.new.held ≡ handle.old.held }
     ensures unwritten { result ≢ done → standing.new ≡ standing.old }
 {
-    match handle.take(alloc) {
-        None => Status::NoPort.code(),
-        Some(port) => {
-            *standing = PlainStanding::of(port.access());
-            handle.put(alloc, port);
-            Status::Done.code()
-        }
-    }
+    with_port!(alloc, handle, |port| {
+        *standing = PlainStanding::of(port.access());
+        Status::Done
+    })
 }
 
 impl PlainStanding {

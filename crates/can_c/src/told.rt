@@ -8,7 +8,7 @@ ghost use Rattle.can_c.specs.Statuses.{done, status_code};
 
 use crate::codes::state_code;
 use crate::controller::Controller;
-use crate::handle::Handle;
+use crate::handle::{Handle, with_port};
 use crate::plain::PlainFrame;
 use crate::status::Status;
 use std::alloc::Global;
@@ -27,16 +27,12 @@ pub extern "C" fn can_c_counters(
     ensures unchanged { handle.new.held ≡ handle.old.held }
     ensures unwritten { result ≢ done → (transmit.new ≡ transmit.old) × (receive.new ≡ receive.old) }
 {
-    match handle.take(alloc) {
-        None => Status::NoPort.code(),
-        Some(port) => {
-            let (tec, rec) = port.counters();
-            *transmit = tec;
-            *receive = rec;
-            handle.put(alloc, port);
-            Status::Done.code()
-        }
-    }
+    with_port!(alloc, handle, |port| {
+        let (tec, rec) = port.counters();
+        *transmit = tec;
+        *receive = rec;
+        Status::Done
+    })
 }
 
 /// Writes the number of the state of fault confinement.
@@ -47,14 +43,10 @@ pub extern "C" fn can_c_state(alloc: Global, handle: &mut Handle, state: &mut u8
     ensures unchanged { handle.new.held ≡ handle.old.held }
     ensures unwritten { result ≢ done → state.new ≡ state.old }
 {
-    match handle.take(alloc) {
-        None => Status::NoPort.code(),
-        Some(port) => {
-            *state = state_code(port.state());
-            handle.put(alloc, port);
-            Status::Done.code()
-        }
-    }
+    with_port!(alloc, handle, |port| {
+        *state = state_code(port.state());
+        Status::Done
+    })
 }
 
 /// Writes how many entries the log has.
@@ -65,14 +57,10 @@ pub extern "C" fn can_c_log_length(alloc: Global, handle: &mut Handle, count: &m
     ensures unchanged { handle.new.held ≡ handle.old.held }
     ensures unwritten { result ≢ done → count.new ≡ count.old }
 {
-    match handle.take(alloc) {
-        None => Status::NoPort.code(),
-        Some(port) => {
-            *count = port.log().len();
-            handle.put(alloc, port);
-            Status::Done.code()
-        }
-    }
+    with_port!(alloc, handle, |port| {
+        *count = port.log().len();
+        Status::Done
+    })
 }
 
 /// Writes how many entries the log had no room for.
@@ -83,14 +71,10 @@ pub extern "C" fn can_c_missed(alloc: Global, handle: &mut Handle, count: &mut u
     ensures unchanged { handle.new.held ≡ handle.old.held }
     ensures unwritten { result ≢ done → count.new ≡ count.old }
 {
-    match handle.take(alloc) {
-        None => Status::NoPort.code(),
-        Some(port) => {
-            *count = port.missed();
-            handle.put(alloc, port);
-            Status::Done.code()
-        }
-    }
+    with_port!(alloc, handle, |port| {
+        *count = port.missed();
+        Status::Done
+    })
 }
 
 /// Writes the entry of the log with this number, the oldest having 0: its frame, and 1 where it was sent, 0 where it
@@ -110,14 +94,7 @@ pub extern "C" fn can_c_entry(
     ensures unchanged { handle.new.held ≡ handle.old.held }
     ensures unwritten { result ≢ done → (frame.new ≡ frame.old) × (sent.new ≡ sent.old) }
 {
-    match handle.take(alloc) {
-        None => Status::NoPort.code(),
-        Some(port) => {
-            let status = entry(&port, number, frame, sent);
-            handle.put(alloc, port);
-            status.code()
-        }
-    }
+    with_port!(alloc, handle, |port| entry(&port, number, frame, sent))
 }
 
 /// Writes an entry of a port's log.

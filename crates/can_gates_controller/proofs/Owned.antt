@@ -13,7 +13,8 @@ use Rattle.can_gates.specs.declared.literal.Literal.{Literal}
 use Rattle.can_gates.specs.Circuit.{value, never}
 use Rattle.can_gates_mac.specs.declared.registers.Controller.{Controller}
 use Rattle.can_gates_mac.specs.Nibbles.{nibble}
-use Rattle.can_gates_mac.specs.Numbers.{Numbers, event_number}
+use Rattle.can_mac.specs.Codes.{event_code}
+use Rattle.can_gates_mac.specs.Numbers.{Numbers}
 use Rattle.can_gates_mac.specs.Shown.{shown}
 use Rattle.can_gates_mac.specs.Stepping.{IsStep}
 use Rattle.can_gates_controller.specs.declared.registers.Registers.{Registers}
@@ -32,7 +33,7 @@ frame_parts (AckDelimiter r) = refl
 frame_parts (EndOfFrame r place) = refl
 frame_parts p = refl
 
-pub event_is : (v : ℕ → Bool) (k : Controller) (after : MacState × Option Event) → IsStep v k after → nibble v k.wires.event ≡ event_number after.1
+pub event_is : (v : ℕ → Bool) (k : Controller) (after : MacState × Option Event) → IsStep v k after → nibble v k.wires.event ≡ event_code after.1
 unfolding shown
 event_is v k after h = ap (λ (n : Numbers). n.event) h.state
 

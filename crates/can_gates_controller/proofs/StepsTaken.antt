@@ -14,7 +14,7 @@ use Rattle.can_gates.specs.Words.{number}
 use Rattle.can_gates_mac.specs.declared.nibble.Nibble.{Nibble}
 use Rattle.can_gates_mac.specs.declared.registers.Controller.{Controller}
 use Rattle.can_gates_mac.specs.Nibbles.{nibble}
-use Rattle.can_gates_mac.specs.Numbers.{event_number}
+use Rattle.can_mac.specs.Codes.{event_code}
 use Rattle.can_gates_mac.specs.Stepping.{Holds}
 use Rattle.can_gates_controller.specs.declared.registers.Registers.{Registers}
 use Rattle.can_gates_controller.specs.declared.registers.Offered.{Offered}
@@ -124,7 +124,7 @@ drives_asked (Some n) m waiting = by (nat_le n 2)
     by true = refl
     by false = refl
 
-pub told_is : (reset enable : Bool) (e : Option Event) → cond (enable && not reset) (event_number e) 0 ≡ event_number (cond reset None (cond enable e None))
+pub told_is : (reset enable : Bool) (e : Option Event) → cond (enable && not reset) (event_code e) 0 ≡ event_code (cond reset None (cond enable e None))
 told_is true true e = refl
 told_is true false e = refl
 told_is false true e = refl

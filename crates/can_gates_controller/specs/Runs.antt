@@ -9,7 +9,7 @@ use Rattle.can_gates.specs.declared.aiger.Register.{Register}
 use Rattle.can_gates.specs.Circuit.{value, Keeps, CircuitParts, never}
 use Rattle.can_gates.specs.Words.{number}
 use Rattle.can_gates_mac.specs.Nibbles.{nibble}
-use Rattle.can_gates_mac.specs.Numbers.{event_number}
+use Rattle.can_mac.specs.Codes.{event_code}
 use Rattle.can_gates_controller.specs.declared.ports.InputPorts.{InputPorts}
 use Rattle.can_gates_controller.specs.declared.ports.OutputPorts.{OutputPorts}
 use Rattle.can_gates_controller.specs.declared.design.Design.{Design}
@@ -33,7 +33,7 @@ step_in v k = record {
 -- whether it is error passive and bus off
 pub record Shows (v : ℕ → Bool) (k : OutputPorts) (m : MacState) (s : ControllerStep) : Type 0 where
   pub drive : value v k.drive ≡ is_recessive (mac_drives m s.waiting)
-  pub told : nibble v k.told ≡ event_number (told_in m s)
+  pub told : nibble v k.told ≡ event_code (told_in m s)
   pub frame : (f : Parts) → frame_told (told_in m s) ≡ Some f → HoldsFields v k.frame f
   pub tec : number v k.tec ≡ m.counters.tec
   pub rec : number v k.rec ≡ m.counters.rec

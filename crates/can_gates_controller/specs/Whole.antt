@@ -16,7 +16,8 @@ use Rattle.can_mac.specs.Machine.{mac_step, mac_drives}
 use Rattle.can_gates.specs.declared.literal.Literal.{Literal}
 use Rattle.can_gates.specs.Circuit.{value}
 use Rattle.can_gates_mac.specs.Nibbles.{nibble}
-use Rattle.can_gates_mac.specs.Numbers.{is_waiting, event_number}
+use Rattle.can_mac.specs.Codes.{event_code}
+use Rattle.can_gates_mac.specs.Numbers.{is_waiting}
 use Rattle.can_gates_mac.specs.Stepping.{Holds}
 use Rattle.can_gates_controller.specs.declared.registers.Registers.{Registers}
 use Rattle.can_gates_controller.specs.declared.registers.Offered.{Offered}
@@ -61,5 +62,5 @@ pub record TellsFrame (v : ℕ → Bool) (k : Registers) (told : Option Event) :
 pub record IsBitTime (v : ℕ → Bool) (k : BitTime) (held : Registers) (m : MacState) (waiting : Option Parts) (x : Level) : Type 0 where
   pub next : HoldsAll v k.next (mac_step m waiting x).0
   pub drives : value v k.recessive ≡ is_recessive (mac_drives m waiting)
-  pub event : nibble v k.next.controller.wires.event ≡ event_number (mac_step m waiting x).1
+  pub event : nibble v k.next.controller.wires.event ≡ event_code (mac_step m waiting x).1
   pub frame : TellsFrame v held (mac_step m waiting x).1

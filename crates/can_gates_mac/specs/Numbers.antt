@@ -5,11 +5,9 @@ use Rattle.can_frame.specs.Levels.{is_recessive}
 use Rattle.can_frame.specs.Parts.{Parts}
 use Rattle.can_fault.specs.declared.cause.Cause.{Cause}
 use Rattle.can_fault.specs.declared.cause.Cause.TheVariants.{ReceiverError, ReceiverFlagBit, ReceiverFirstDominant, ReceiverDominantRun, SenderError, SenderFlagBit, SenderDominantRun, PassiveUnacknowledged, FrameSent, FrameReceived}
-use Rattle.can_mac.specs.declared.event.Event.{Event}
-use Rattle.can_mac.specs.declared.event.Event.TheVariants.{Sent, Received, Lost, Error, Overload, WentOff, Recovered}
 use Rattle.can_mac.specs.declared.phase.Reading.{Reading}
 use Rattle.can_mac.specs.declared.phase.Phase.TheVariants.{Joining, Idle, StuffedPart, CrcDelimiter, AckSlot, AckDelimiter, EndOfFrame, ErrorFlag, PassiveFlag, OverloadFlag, AfterFlag, Delimiter, Intermission, Suspend, BusOff}
-use Rattle.can_mac.specs.Codes.{kind_code}
+use Rattle.can_mac.specs.Codes.{event_code}
 use Rattle.can_mac.specs.State.{MacPhase}
 pub use Rattle.can_mac.specs.State.{is_sender}
 use Rattle.can_mac.specs.Moves.{MacMove}
@@ -98,17 +96,6 @@ cause_number (Some PassiveUnacknowledged) = 3
 cause_number (Some FrameSent) = 4
 cause_number (Some FrameReceived) = 5
 
--- as bindings/riddlesage.h numbers them
-abbrev pub event_number : Option Event → ℕ
-event_number None = 0
-event_number (Some (Sent f)) = 1
-event_number (Some (Received f)) = 2
-event_number (Some Lost) = 3
-event_number (Some (Error kind)) = kind_code kind
-event_number (Some Overload) = 9
-event_number (Some WentOff) = 10
-event_number (Some Recovered) = 11
-
 -- Moves.
 
 -- a controller but for its counters and frames, with what is counted and told
@@ -135,5 +122,5 @@ numbers m = record {
   pending = m.overloads.pending;
   used = m.overloads.used;
   cause = cause_number m.cause;
-  event = event_number m.event;
+  event = event_code m.event;
 }

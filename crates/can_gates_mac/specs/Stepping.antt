@@ -12,7 +12,8 @@ use Rattle.can_gates_mac.specs.declared.wires.Inputs.{Inputs}
 use Rattle.can_gates_mac.specs.declared.registers.Counters.{Counters}
 use Rattle.can_gates_mac.specs.declared.registers.Controller.{Controller}
 use Rattle.can_gates_mac.specs.Nibbles.{nibble}
-use Rattle.can_gates_mac.specs.Numbers.{Numbers, phase_number, place_number, last_recessive, unacknowledged_of, is_first, is_sender, is_waiting, event_number}
+use Rattle.can_mac.specs.Codes.{event_code}
+use Rattle.can_gates_mac.specs.Numbers.{Numbers, phase_number, place_number, last_recessive, unacknowledged_of, is_first, is_sender, is_waiting}
 use Rattle.can_gates_mac.specs.Shown.{shown}
 use Rattle.can_gates_mac.specs.Inputs.{TellsReading, IsPartIn}
 
@@ -32,7 +33,7 @@ state_numbers m e = record {
   pending = m.overloads.pending;
   used = m.overloads.used;
   cause = 0;
-  event = event_number e;
+  event = event_code e;
 }
 
 pub record HoldsCounters (v : ℕ → Bool) (k : Counters) (c : ConfineParts) : Type 0 where
