@@ -1,12 +1,12 @@
 -- A case is marked exactly where a transcript is of it.
 use Rattle.std.specs.List.{count_by, range_with_len}
 use Rattle.std.proofs.Common.{◌≡◌, ◌≢◌, ℕ, ◌+◌, ◌<◌, ◌==◌, Bool, cond, true, false, ◌||◌, List, [], ◌∷◌, ◌++◌, length, get_or, map, replicate, set, refl, sym, ap, ◌∙◌, arith}
+use Rattle.std.proofs.Math.Bool.{or-false, or-true}
 use Rattle.std.proofs.lemmas.Bool.Decides.{Decides-eqb}
 use Rattle.std.proofs.lemmas.List.{append-nil, drop_all, get_or-replicate, get_or-set_other, get_or-set_same, length-replicate, length-set}
 use Rattle.std.proofs.lemmas.List.Folds.{fold-map}
 use Rattle.std.proofs.lemmas.List.FromFn.{get_or-map-range_with_len, length-map-range_with_len}
 use Rattle.std.proofs.lemmas.List.Prefix.{front_from_reads}
-use Rattle.kit_documents.proofs.NamesBefore.{or_false}
 use Rattle.kit_documents.specs.declared.transcripts.told.Told.{Told}
 use Rattle.canhold_commands.specs.Judgements.{has_one}
 use Rattle.canhold_commands.specs.Marks.{with_marks}
@@ -14,10 +14,6 @@ use Rattle.canhold_commands.specs.Marks.{with_marks}
 length-marked : (transcripts : List Told) (marks : List Bool) → length (with_marks transcripts marks) ≡ length marks
 length-marked [] marks = refl
 length-marked (told ∷ transcripts) marks = length-marked transcripts (set marks told.case true) ∙ length-set marks told.case true
-
-or_true : (b : Bool) → (b || true) ≡ true
-or_true true = refl
-or_true false = refl
 
 true_or_false : {P : Type 0} (b : Bool) → (b ≡ true → P) → (b ≡ false → P) → P
 true_or_false true here other = here refl
@@ -32,11 +28,11 @@ set-mark marks at k rest within =
     let here : (at == k) ≡ true → (get_or (set marks at true) k false || rest) ≡ (get_or marks k false || ((at == k) || rest)) = λ is.
     let same : at ≡ k = (Decides-eqb at k).0 is in
     ap (λ i. get_or (set marks i true) k false || rest) same ∙ ap (λ b. b || rest) (get_or-set_same marks k true false within)
-    ∙ sym (or_true (get_or marks k false)) ∙ ap (λ b. get_or marks k false || (b || rest)) (sym is) in
+    ∙ sym (or-true (get_or marks k false)) ∙ ap (λ b. get_or marks k false || (b || rest)) (sym is) in
     true_or_false (at == k) here other
 
 marked-at : (transcripts : List Told) (marks : List Bool) (k : ℕ) → k < length marks → get_or (with_marks transcripts marks) k false ≡ (get_or marks k false || has_one transcripts k)
-marked-at [] marks k within = sym (or_false (get_or marks k false))
+marked-at [] marks k within = sym (or-false (get_or marks k false))
 marked-at (told ∷ transcripts) marks k within =
     let longer : k < length (set marks told.case true) = omega (arith, length-set marks told.case true) in
     marked-at transcripts (set marks told.case true) k longer ∙ set-mark marks told.case k (has_one transcripts k) within
