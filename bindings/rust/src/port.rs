@@ -33,20 +33,18 @@ pub enum Event {
 
 impl Event {
     fn of(code: u8, frame: &sys::Frame) -> Option<Self> {
-        Some(match code {
-            0 => return None,
-            1 => Self::Sent(Frame::of(frame)),
-            2 => Self::Received(Frame::of(frame)),
-            3 => Self::Lost,
-            4 => Self::BitError,
-            5 => Self::StuffError,
-            6 => Self::CrcError,
-            7 => Self::FormError,
-            8 => Self::AckError,
-            9 => Self::Overload,
-            10 => Self::WentOff,
-            11 => Self::Recovered,
-            _ => unreachable!("riddlesage_port_sample tells {code}"),
+        EventKind::of(code).map(|kind| match kind {
+            EventKind::Sent => Self::Sent(Frame::of(frame)),
+            EventKind::Received => Self::Received(Frame::of(frame)),
+            EventKind::Lost => Self::Lost,
+            EventKind::BitError => Self::BitError,
+            EventKind::StuffError => Self::StuffError,
+            EventKind::CrcError => Self::CrcError,
+            EventKind::FormError => Self::FormError,
+            EventKind::AckError => Self::AckError,
+            EventKind::Overload => Self::Overload,
+            EventKind::WentOff => Self::WentOff,
+            EventKind::Recovered => Self::Recovered,
         })
     }
 }
