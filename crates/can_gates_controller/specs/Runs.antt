@@ -51,11 +51,11 @@ register_at registers i = slice_index_or registers i (record { next = never; sta
 
 abbrev pub StartsRegisters : CircuitParts → List Register → (ℕ → Bool) → Type 0
 StartsRegisters c registers v =
-  (i : ℕ) → i < length registers → v (held_signal c registers i) ≡ (register_at registers i).starts
+    (i : ℕ) → i < length registers → v (held_signal c registers i) ≡ (register_at registers i).starts
 
 abbrev pub StepsRegisters : CircuitParts → List Register → (ℕ → Bool) → (ℕ → Bool) → Type 0
 StepsRegisters c registers before now =
-  (i : ℕ) → i < length registers → now (held_signal c registers i) ≡ value before (register_at registers i).next
+    (i : ℕ) → i < length registers → now (held_signal c registers i) ≡ value before (register_at registers i).next
 
 -- at first the registers hold an idle controller
 abbrev pub StartsIdle : Design → Type 0
@@ -64,17 +64,17 @@ StartsIdle d = (v : ℕ → Bool) → StartsRegisters d.circuit d.registers.item
 -- behind a reset they hold an idle one, or one that joins, whatever they held
 abbrev pub Resets : Design → Type 0
 Resets d =
-  (before now : ℕ → Bool) → Keeps before d.circuit → value before d.inputs.reset ≡ true →
-  StepsRegisters d.circuit d.registers.items before now →
-  HoldsAll now d.held (if value before d.inputs.joins then joining else idle)
+    (before now : ℕ → Bool) → Keeps before d.circuit → value before d.inputs.reset ≡ true →
+    StepsRegisters d.circuit d.registers.items before now →
+    HoldsAll now d.held (if value before d.inputs.joins then joining else idle)
 
 -- in each assignment that keeps the circuit, whatever controller the registers hold and whatever comes in, what goes out is that
 -- of the machine, and a step later the registers hold its next state
 abbrev pub IsController : Design → Type 0
 IsController d =
-  (before : ℕ → Bool) (m : MacState) → Keeps before d.circuit → HoldsAll before d.held m →
-  Shows before d.outputs m (step_in before d.inputs) ×
-  ((now : ℕ → Bool) → StepsRegisters d.circuit d.registers.items before now →
+    (before : ℕ → Bool) (m : MacState) → Keeps before d.circuit → HoldsAll before d.held m →
+    Shows before d.outputs m (step_in before d.inputs) ×
+    ((now : ℕ → Bool) → StepsRegisters d.circuit d.registers.items before now →
     HoldsAll now d.held (state_behind m (step_in before d.inputs)))
 
 -- an assignment for each of n steps: each keeps the circuit, and the registers hold what they took
@@ -89,8 +89,8 @@ steps_in d v t = step_in (v t) d.inputs
 -- in each run, from whatever controller the registers hold, what goes out in each step is that of the machine's own run
 abbrev pub RunsAlike : Design → Type 0
 RunsAlike d =
-  (v : ℕ → ℕ → Bool) (m : MacState) (n : ℕ) → IsRun d v n → HoldsAll (v 0) d.held m →
-  (t : ℕ) → t < n → Shows (v t) d.outputs (state_before m (steps_in d v) t) (steps_in d v t)
+    (v : ℕ → ℕ → Bool) (m : MacState) (n : ℕ) → IsRun d v n → HoldsAll (v 0) d.held m →
+    (t : ℕ) → t < n → Shows (v t) d.outputs (state_before m (steps_in d v) t) (steps_in d v t)
 
 -- the circuit's first inputs are what comes in, and its last ones what the registers hold, each in the order of its list; what goes
 -- out is listed in the order of a file

@@ -29,13 +29,13 @@ taken_at reset joins enable place next held = if reset then place == 0 && joins 
 -- registers that take these literals at a reset hold an idle controller, or one that joins
 abbrev pub TakesReset : (ℕ → Bool) → InputPorts → Registers → List Literal → Type 0
 TakesReset before k held taken =
-  (now : ℕ → Bool) → value before k.reset ≡ true → TakesLevels before now 277 (register_list held) taken →
-  HoldsAll now held (if value before k.joins then joining else idle)
+    (now : ℕ → Bool) → value before k.reset ≡ true → TakesLevels before now 277 (register_list held) taken →
+    HoldsAll now held (if value before k.joins then joining else idle)
 
 -- registers that take these literals hold the next state, and what goes out is that of the machine
 abbrev pub TakesStep : (ℕ → Bool) → InputPorts → OutputPorts → Registers → List Literal → Type 0
 TakesStep before i o held taken =
-  (m : MacState) → HoldsAll before held m →
-  Shows before o m (step_in before i) ×
-  ((now : ℕ → Bool) → TakesLevels before now 277 (register_list held) taken →
+    (m : MacState) → HoldsAll before held m →
+    Shows before o m (step_in before i) ×
+    ((now : ℕ → Bool) → TakesLevels before now 277 (register_list held) taken →
     HoldsAll now held (state_behind m (step_in before i)))

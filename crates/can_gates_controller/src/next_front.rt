@@ -66,7 +66,12 @@ fn choose_heard(circuit: &mut Circuit, test: Literal, a: &Heard, b: &Heard) -> H
 }
 
 /// What is heard behind a bit time: in a stuffed part the front with the level, behind it what it was, else a first front.
-pub(crate) fn front_behind(circuit: &mut Circuit, within: Within, heard: &Heard, next: &Heard) -> Heard
+pub(crate) fn front_behind(
+    circuit: &mut Circuit,
+    within: Within,
+    heard: &Heard,
+    next: &Heard,
+) -> Heard
     ensures { Makes circuit.old circuit.new (λ v. (p q : MacPhase) (role new : Role) (waiting : Option Parts) (x : Level) → ShowsWithin v within p → HoldsHeard v heard.now p → ((front : FrontParts) → p ≡ StuffedPart front → HoldsFront v next.now (heard_level front x)) → IsPhaseBehind p role waiting x q new → HoldsHeard v result q) }
 {
     let first = first_heard();

@@ -22,6 +22,6 @@ ShowsMove v k w p = (s : Stance) (waiting : Option Parts) (x : Level) → IsSens
 -- the wires are the move from the stuffed part
 abbrev pub ShowsPart : (ℕ → Bool) → Senses → Part → Wires → Type 0
 ShowsPart v k part w =
-  (s : Stance) (front : FrontParts) (waiting : Option Parts) (x : Level) →
-  IsSensed v k s (StuffedPart front) waiting x → ReadsPart v part s.role front x →
-  shown v w ≡ numbers (move s (StuffedPart front) waiting x)
+    (s : Stance) (front : FrontParts) (waiting : Option Parts) (x : Level) →
+    IsSensed v k s (StuffedPart front) waiting x → ReadsPart v part s.role front x →
+    shown v w ≡ numbers (move s (StuffedPart front) waiting x)
