@@ -3,7 +3,7 @@ use Rattle.std.proofs.Common.{◌≡◌, ℕ, zero, suc, ◌+◌, ◌-◌, ◌<�
 use Rattle.std.specs.Prelude.{nat_lt, IsTrue, if◌then◌else◌}
 use Rattle.std.proofs.Math.Seq.{take-append-add}
 use Rattle.std.proofs.lemmas.Bool.{cases_lt}
-use Rattle.std.proofs.lemmas.List.{append-nil, take_all, get_or-map, get_or_past, get_or-drop, take-append-drop, length-take-le, length-drop, length-replicate}
+use Rattle.std.proofs.lemmas.List.{take_all, get_or-map, get_or_past, get_or-drop, take-append-drop, length-take-le, length-drop, length-replicate}
 use Rattle.can_frame.specs.declared.level.Level.{Level}
 use Rattle.can_frame.specs.declared.level.Level.TheVariants.{Dominant, Recessive}
 use Rattle.can_frame.specs.Levels.{is_recessive, bits_of, number_from}
@@ -11,7 +11,7 @@ use Rattle.can_wire.specs.Crc.{plus, xor, lower_terms, scaled, crc_of, IsCrc}
 use Rattle.can_wire.specs.Layout.{level_at, head_of, check_of}
 use Rattle.can_wire.proofs.DivisionLemmas.{none, length-crc_of}
 use Rattle.can_wire.proofs.XorLemmas.{plus_zero, xor_self, xor_zeros}
-use Rattle.can_wire.proofs.Register.{register, crc_of-on, crc_of-behind_none, register-top, crc_of-none}
+use Rattle.can_wire.proofs.Register.{register, crc_of-on, register-top, crc_of-none}
 use Rattle.can_wire.proofs.LevelLemmas.{bits_of-none}
 use Rattle.can_wire.proofs.LayoutNumbers.{bits_of-number_from, number_from-lt}
 use Rattle.can_wire.proofs.LayoutPlaces.{level_at-dominant, level_at-append, level_at-behind}

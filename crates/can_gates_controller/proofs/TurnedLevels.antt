@@ -5,7 +5,7 @@ use Rattle.std.proofs.lemmas.Nat.{shr_high}
 use Rattle.std.proofs.lemmas.Bool.{cases_lt}
 use Rattle.std.proofs.lemmas.List.{drop-map, map-append, get_or-drop, get_or_append_left, get_or-append_right}
 use Rattle.can_frame.specs.declared.level.Level.{Level}
-use Rattle.can_frame.specs.declared.level.Level.TheVariants.{Dominant, Recessive}
+use Rattle.can_frame.specs.declared.level.Level.TheVariants.{Dominant}
 use Rattle.can_frame.specs.Levels.{is_recessive, level_from, level_of, bits_of, number_from}
 use Rattle.can_frame.proofs.LevelLemmas.{bits_of-low, number_from-append}
 use Rattle.can_wire.specs.Layout.{level_at, filled, bytes_from}

@@ -1,7 +1,7 @@
 -- What a controller's circuit takes, holds and gives, each in one list, as a file has it.
-use Rattle.std.specs.Prelude.{ℕ, zero, suc, ◌≡◌, ◌+◌, ◌<◌, Bool, false, List, [], ◌∷◌, ◌++◌, slice_index_or}
+use Rattle.std.specs.Prelude.{ℕ, zero, suc, ◌≡◌, ◌+◌, ◌<◌, Bool, List, [], ◌∷◌, ◌++◌}
 use Rattle.can_gates.specs.declared.literal.Literal.{Literal}
-use Rattle.can_gates.specs.Circuit.{value, never, value_at}
+use Rattle.can_gates.specs.Circuit.{never, value_at}
 use Rattle.can_gates_mac.specs.declared.nibble.Nibble.{Nibble}
 use Rattle.can_gates_mac.specs.declared.wires.Wires.{Wires}
 use Rattle.can_gates_mac.specs.declared.registers.Counters.{Counters}
