@@ -1,8 +1,9 @@
--- For crates above: what is known of signal 0, of words at a place, and of lines of numbers
+-- For crates above: what is known of signal 0, of words at a place, of lines of numbers, and of names that are read back
 pub mod Bools
 pub mod Constants
 pub mod WordNumbers
 pub mod AigerLines
+pub mod Tested
 -- For this crate
 pub mod KeptGates
 pub mod Running
@@ -12,3 +13,13 @@ pub mod OrderPlaces
 pub mod Halves
 pub mod AigerTexts
 pub mod Rows
+mod Blocks
+mod Reading
+mod Proper
+mod Modules
+mod Groups
+mod NamesRead
+mod FilesRead
+mod Joined
+mod Bits
+mod FileRows

@@ -5,3 +5,11 @@ pub mod Runs
 pub mod Aiger
 pub mod AigerNumbers
 pub mod Ordered
+pub mod Names
+pub mod Statements
+pub mod Verilog
+pub mod Named
+pub mod Binary
+pub mod Readable
+pub mod Module
+pub mod Files

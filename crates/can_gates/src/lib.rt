@@ -1,4 +1,5 @@
-//! Circuits of and gates, and what makes them: gates for the words of logic, and for the arithmetic of numbers.
+//! Circuits of and gates, what makes them, gates for the words of logic and for the arithmetic of numbers, and their files:
+//! Verilog, and AIGER with names.
 //!
 //! A [`Circuit`] is a list of gates, each the and of two [`Literal`]s, as an AIGER file has them. An assignment, which gives
 //! each signal a value, keeps the circuit if signal 0 is false and each gate's signal is the and of its two sides. Whatever
@@ -20,6 +21,12 @@
 //! | `orders.rt` | which of two numbers is less, and whether they are equal | `specs/Words.antt` |
 //! | `select.rt` | the literal at a place that a number tells | `specs/Words.antt` |
 //! | `aiger.rt` | [`Register`], and the text of a circuit with registers and outputs in AIGER's ascii format; lines of numbers | `specs/Aiger.antt` |
+//! | `files/words.rt` | [`Names`], [`Word`], and the places of words | `specs/Names.antt` |
+//! | `files/verilog.rt` | [`push_verilog`]: a module of Verilog-2001, whose statements have three forms, and [`modules_are_read_back`] | `specs/Verilog.antt`, `specs/Module.antt` |
+//! | `files/statements.rt` | these statements, and [`statements_are_read_back`] | `specs/Statements.antt` |
+//! | `files/aiger.rt` | [`push_ascii`] and [`push_binary`]: AIGER files; [`ascii_files_are_read_back`], [`binary_files_are_read_back`] and [`gates_are_read_back`] | `specs/Named.antt`, `specs/Binary.antt`, `specs/Files.antt` |
+//! | `files/symbols.rt` | their names, and [`symbols_are_read_back`] | `specs/Named.antt` |
+//! | `files/pieces.rt` | literals and names as texts | |
 //!
 //! What makes a word has words of one length, and takes no memory but for gates. What compares and selects has words of any
 //! two: past its end a word has [`FALSE`].
@@ -32,6 +39,7 @@ mod aiger;
 mod chains;
 mod choices;
 mod circuit;
+mod files;
 mod literal;
 mod orders;
 mod select;
@@ -40,5 +48,10 @@ mod words;
 
 pub use aiger::{Register, lines_are_read_back, push_aiger, push_line, push_number};
 pub use circuit::{Circuit, Gate};
+pub use files::{
+    Names, Word, ascii_files_are_read_back, binary_files_are_read_back, gates_are_read_back,
+    modules_are_read_back, push_ascii, push_binary, push_verilog, statements_are_read_back,
+    symbols_are_read_back,
+};
 pub use literal::{FALSE, Literal, TRUE};
 pub use words::{constant, literal_at};

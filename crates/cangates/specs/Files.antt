@@ -4,11 +4,11 @@ use Rattle.std.specs.Io.KnownBytes.{Appends, Keeps}
 use Rattle.can_gates.specs.declared.literal.Literal.{Literal}
 use Rattle.can_gates.specs.declared.aiger.Register.{Register}
 use Rattle.can_gates.specs.Circuit.{CircuitParts}
-use Rattle.can_gates_files.specs.declared.words.Names.{Names}
-use Rattle.can_gates_files.specs.Verilog.{verilog_text}
-use Rattle.can_gates_files.specs.Binary.{binary_text}
-use Rattle.can_gates_files.specs.Named.{ascii_text}
-use Rattle.can_gates_files.specs.Readable.{AreReadable}
+use Rattle.can_gates.specs.declared.files.words.Names.{Names}
+use Rattle.can_gates.specs.Verilog.{verilog_text}
+use Rattle.can_gates.specs.Binary.{binary_text}
+use Rattle.can_gates.specs.Named.{ascii_text}
+use Rattle.can_gates.specs.Readable.{AreReadable}
 use Rattle.can_gates_controller.specs.declared.design.Design.{Design}
 use Rattle.can_gates_controller.specs.Runs.{HasPorts, IsController, Resets, RunsAlike, StartsIdle}
 use Rattle.can_stream.specs.Outbox.{TakesFront}

@@ -2,8 +2,8 @@
 -- (docs/CIRCUIT.md, "A step" and "Registers")
 use Rattle.std.specs.Prelude.{ℕ, ◌≡◌, List, [], ◌∷◌, ◌++◌, length, map, codes}
 use Rattle.can_gates.specs.declared.literal.Literal.{Literal}
-use Rattle.can_gates_files.specs.declared.words.Word.{Word}
-use Rattle.can_gates_files.specs.declared.words.Names.{Names}
+use Rattle.can_gates.specs.declared.files.words.Word.{Word}
+use Rattle.can_gates.specs.declared.files.words.Names.{Names}
 use Rattle.can_gates_controller.specs.declared.ports.InputPorts.{InputPorts}
 use Rattle.can_gates_controller.specs.declared.ports.OutputPorts.{OutputPorts}
 use Rattle.can_gates_controller.specs.declared.registers.Registers.{Registers}

@@ -4,9 +4,8 @@ ghost use Rattle.cangates.specs.Files.{IsFile, text_in};
 
 use crate::names::names;
 use crate::words::Form;
-use can_gates::{Circuit, Literal, Register};
+use can_gates::{Circuit, Literal, Names, Register, push_ascii, push_binary, push_verilog};
 use can_gates_controller::controller_circuit;
-use can_gates_files::{Names, push_ascii, push_binary, push_verilog};
 use std::alloc::{AllocError, Global};
 
 /// The text of the file in this form.

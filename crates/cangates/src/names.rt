@@ -1,6 +1,6 @@
 //! The names of the controller's ports and registers.
 ghost use Rattle.std.specs.Prelude.{◌≡◌, length};
-ghost use Rattle.can_gates_files.specs.Readable.{AreReadable};
+ghost use Rattle.can_gates.specs.Readable.{AreReadable};
 ghost use Rattle.can_gates_controller.specs.declared.design.Design.{Design};
 ghost use Rattle.can_gates_controller.specs.declared.ports.InputPorts.{InputPorts};
 ghost use Rattle.can_gates_controller.specs.declared.ports.OutputPorts.{OutputPorts};
@@ -8,7 +8,7 @@ ghost use Rattle.can_gates_controller.specs.declared.registers.Registers.{Regist
 ghost use Rattle.can_gates_controller.specs.Listed.{input_list, output_list, register_list};
 ghost use Rattle.cangates.specs.Ports.{IsNamed, input_words, literals_of, output_words, register_words};
 
-use can_gates_files::{Names, Word};
+use can_gates::{Names, Word};
 
 /// The literals of the words, one word behind another, are what comes in, what is held and what goes out, in the order in
 /// which a file has them. It does nothing.

@@ -1,5 +1,5 @@
 use Rattle.std.proofs.Common.{refl, sym}
-use Rattle.can_gates_files.proofs.Tested.{readable_names}
+use Rattle.can_gates.proofs.Tested.{readable_names}
 use Rattle.cangates.proofs.WordLists.{inputs_sized, outputs_sized, registers_sized}
 use Rattle.cangates.proofs.names.names.Goals as goal
 

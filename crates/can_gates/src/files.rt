@@ -1,0 +1,20 @@
+//! Circuits as files: Verilog, and AIGER with names.
+//!
+//! A file has the names of what a circuit takes, holds and gives, [`Names`]: words, each a name of literals that stand side
+//! by side. Where a word has no literal left, [`crate::FALSE`] stands.
+
+mod aiger;
+mod pieces;
+mod statements;
+mod symbols;
+mod verilog;
+mod words;
+
+pub use aiger::{
+    ascii_files_are_read_back, binary_files_are_read_back, gates_are_read_back, push_ascii,
+    push_binary,
+};
+pub use statements::statements_are_read_back;
+pub use symbols::symbols_are_read_back;
+pub use verilog::{modules_are_read_back, push_verilog};
+pub use words::{Names, Word};

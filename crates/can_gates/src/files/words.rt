@@ -1,0 +1,70 @@
+//! Names of literals.
+ghost use Rattle.std.specs.Prelude.{◌≡◌, ◌++◌, IfOk, OnOk};
+ghost use Rattle.std.specs.List.{flat_map};
+ghost use Rattle.can_gates.specs.Names.{bits_of_word, numbered};
+
+use std::alloc::{AllocError, Global};
+
+/// A name of literals that stand side by side, the lowest place of their number first.
+#[derive(Clone, Copy, Debug)]
+pub struct Word<'a> {
+    /// The name, which Verilog takes as one.
+    pub name: &'a str,
+    /// How many literals have it. One alone has the name with no place behind it.
+    pub places: u32,
+    /// What it means, in one line.
+    pub meaning: &'a str,
+}
+
+/// The names in a file of a circuit.
+#[derive(Clone, Copy, Debug)]
+pub struct Names<'a> {
+    /// The circuit's own name.
+    pub circuit: &'a str,
+    /// What it is, in one line.
+    pub meaning: &'a str,
+    /// What it takes.
+    pub inputs: &'a [Word<'a>],
+    /// What it holds.
+    pub registers: &'a [Word<'a>],
+    /// What it gives.
+    pub outputs: &'a [Word<'a>],
+}
+
+/// One literal's name.
+#[derive(Clone, Copy)]
+pub(crate) struct Bit<'a> {
+    /// The word's name.
+    pub(crate) name: &'a str,
+    /// The literal's place, where the word has others.
+    pub(crate) place: Option<u32>,
+}
+
+/// The name of each literal of these words.
+pub(crate) fn bits_of<'a>(alloc: Global, words: &[Word<'a>]) -> Result<Vec<Bit<'a>>, AllocError>
+    ensures { IfOk result (λ r. r.items ≡ flat_map bits_of_word words.now) }
+{
+    let mut bits = Vec::new(alloc);
+    for word in words {
+        push_bits(&mut bits, word)?;
+    }
+    Ok(bits)
+}
+
+/// Appends the name of each literal of a word.
+fn push_bits<'a>(out: &mut Vec<Bit<'a>>, word: &Word<'a>) -> Result<(), AllocError>
+    ensures { OnOk result (out.new.items ≡ out.old.items ++ bits_of_word word.now) }
+{
+    let name = word.name;
+    if word.places == 1 {
+        out.push(Bit { name, place: None })?;
+        return Ok(());
+    }
+    for place in 0..word.places {
+        out.push(Bit {
+            name,
+            place: Some(place),
+        })?;
+    }
+    Ok(())
+}

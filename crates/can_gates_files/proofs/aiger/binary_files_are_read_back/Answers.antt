@@ -1,5 +1,0 @@
-use Rattle.can_gates_files.proofs.FilesRead.{binary_read}
-use Rattle.can_gates_files.proofs.aiger.binary_files_are_read_back.Goals as goal
-
-pub returns : goal.returns
-returns c = λ n circuit registers outputs is are ordered fits within. binary_read n circuit registers outputs is are ordered fits within

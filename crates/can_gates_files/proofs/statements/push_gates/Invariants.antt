@@ -1,8 +1,0 @@
-use Rattle.std.proofs.Common.{◌≡◌, ◌++◌, map, drop}
-use Rattle.std.specs.List.{flat_map}
-use Rattle.can_gates_files.specs.Statements.{And, statement_text}
-use Rattle.can_gates_files.proofs.statements.push_gates.Given as goal
-
--- with those of the gates from here on, these are all wires
-abbrev pub invariant-loop-gate : goal.invariant-loop-gate
-invariant-loop-gate l = l.out.items ++ flat_map statement_text (map And (drop l.gate-index l.gates)) ≡ l.fn.out.items ++ flat_map statement_text (map And l.gates)

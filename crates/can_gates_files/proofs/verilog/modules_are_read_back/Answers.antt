@@ -1,5 +1,0 @@
-use Rattle.can_gates_files.proofs.Modules.{module_read}
-use Rattle.can_gates_files.proofs.verilog.modules_are_read_back.Goals as goal
-
-pub returns : goal.returns
-returns c = λ n circuit registers outputs is are. module_read n circuit registers outputs is are

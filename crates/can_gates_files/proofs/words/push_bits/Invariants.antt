@@ -1,7 +1,0 @@
-use Rattle.std.proofs.Common.{◌≡◌, ◌++◌}
-use Rattle.can_gates_files.specs.Names.{numbered}
-use Rattle.can_gates_files.proofs.words.push_bits.Given as goal
-
--- the places below this one
-abbrev pub invariant-loop-place : goal.invariant-loop-place
-invariant-loop-place l = l.out.items ≡ l.fn.out.items ++ numbered l.word l.place

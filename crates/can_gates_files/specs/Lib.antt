@@ -1,9 +1,0 @@
--- To believe: what public calls and laws promise is said in these words
-pub mod Names
-pub mod Statements
-pub mod Verilog
-pub mod Named
-pub mod Binary
-pub mod Readable
-pub mod Module
-pub mod Files
