@@ -16,7 +16,7 @@ use Rattle.can_bus.specs.declared.call.Call.{Call}
 use Rattle.can_hit.specs.Hits.{is_above, is_pair_above}
 use Rattle.can_bus.specs.Run.{BusState, CallState, wired_level, begins_attempt, following, aged, attempt_now, hits_wire, hits_view, inverted_if, all_sampled, rest_after, recorded, bus_step, bus_after}
 use Rattle.can_bus.specs.Wired.{wired}
-use Rattle.can_bus.specs.Walks.{AreBelow, HitsRise, IsPassed, IsCall, in_next, is_hit, aged_by, never, rested, until_at, until_in, until_view}
+use Rattle.can_bus.specs.Walks.{AreBelow, HitsRise, IsPassed, IsCall, in_next, is_hit, aged_by, for_ever, rested, until_at, until_in, until_view}
 use Rattle.can_bus.proofs.CursorLemmas.{reach_none, reach_past, wire_found, attempt_found, view_found}
 use Rattle.can_bus.proofs.StepLemmas.{call_of, same_call, at_next, view_next, view_later, within_next}
 
@@ -84,11 +84,11 @@ at_far time n (Some (At t)) h = lt-ltb (time + n) t (omega arith)
 at_far time n (Some (In number offset)) h = refl
 at_far time n (Some (View t node)) h = refl
 
-in_far_pair : (m o k x n : ℕ) → n < (if nat_lt k m then never else if nat_lt m k then 0 else o - (x + 1)) → is_pair_above m o k (x + (n + 1)) ≡ true
+in_far_pair : (m o k x n : ℕ) → n < (if nat_lt k m then for_ever else if nat_lt m k then 0 else o - (x + 1)) → is_pair_above m o k (x + (n + 1)) ≡ true
 in_far_pair m o k x n h = elim (cases_Bool (nat_lt k m)) [
   | inl later ↦ ap (λ b. b || ((k == m) && nat_lt (x + (n + 1)) o)) later
   | inr other ↦
-      let g : n < (if nat_lt m k then 0 else o - (x + 1)) = subst (λ v. n < v) (cond-false (nat_lt k m) never (if nat_lt m k then 0 else o - (x + 1)) other) h in
+      let g : n < (if nat_lt m k then 0 else o - (x + 1)) = subst (λ v. n < v) (cond-false (nat_lt k m) for_ever (if nat_lt m k then 0 else o - (x + 1)) other) h in
       elim (cases_Bool (nat_lt m k)) [
         | inl earlier ↦ let none : n < 0 = subst (λ v. n < v) (cond-true (nat_lt m k) 0 (o - (x + 1)) earlier) g in absurd (omega arith)
         | inr not ↦

@@ -73,28 +73,28 @@ aged_by n None = None
 aged_by n (Some a) = Some (record { number = a.number; offset = a.offset + n })
 
 -- no bit time of a call comes so late
-abbrev pub never : ℕ
-never = 2 ^ 64 - 1
+abbrev pub for_ever : ℕ
+for_ever = 2 ^ 64 - 1
 
 -- how many bit times pass from this time on before the wired level is hit at its time, where this is the next hit of a
 -- walk along those that lie no earlier
 abbrev pub until_at : ℕ → Option Hit → ℕ
-until_at time None = never
+until_at time None = for_ever
 until_at time (Some (At t)) = t - time
-until_at time (Some (In number offset)) = never
-until_at time (Some (View t node)) = never
+until_at time (Some (In number offset)) = for_ever
+until_at time (Some (View t node)) = for_ever
 
 -- the same of a hit on the latest attempt, if no later one begins; 0 where the walk has a hit yet to pass
 abbrev pub until_in : Option Attempt → Option Hit → ℕ
-until_in None next = never
-until_in (Some a) None = never
+until_in None next = for_ever
+until_in (Some a) None = for_ever
 until_in (Some a) (Some (At t)) = 0
-until_in (Some a) (Some (In number offset)) = if nat_lt a.number number then never else if nat_lt number a.number then 0 else offset - (a.offset + 1)
-until_in (Some a) (Some (View t node)) = never
+until_in (Some a) (Some (In number offset)) = if nat_lt a.number number then for_ever else if nat_lt number a.number then 0 else offset - (a.offset + 1)
+until_in (Some a) (Some (View t node)) = for_ever
 
 -- and of a hit on what a port sees
 abbrev pub until_view : ℕ → Option Hit → ℕ
-until_view time None = never
+until_view time None = for_ever
 until_view time (Some (At t)) = 0
 until_view time (Some (In number offset)) = 0
 until_view time (Some (View t node)) = t - time
