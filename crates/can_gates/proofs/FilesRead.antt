@@ -6,7 +6,7 @@ use Rattle.std.proofs.lemmas.List.{length-append, length-map}
 use Rattle.std.proofs.lemmas.List.Concat.{flat_map-append}
 use Rattle.can_gates.specs.declared.literal.Literal.{Literal}
 use Rattle.can_gates.specs.declared.circuit.Gate.{Gate}
-use Rattle.can_gates.specs.declared.aiger.Register.{Register}
+use Rattle.can_gates.specs.declared.register.Register.{Register}
 use Rattle.can_gates.specs.Circuit.{CircuitParts}
 use Rattle.can_gates.specs.Aiger.{literal_code, gate_numbers, input_lines, line_text, numbers_in, file_lines, numbers_behind, output_numbers, register_lines}
 use Rattle.can_gates.specs.AigerNumbers.{AreLines, AreSmall}

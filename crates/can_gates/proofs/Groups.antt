@@ -105,3 +105,9 @@ circuit_read c behind ordered fits =
 pub group_more : (more n : ℕ) → 0 < more → 128 ≤ n → groups more n ≡ (128 + n % 128) ∷ groups (more - 1) (n / 128)
 group_more zero n some many = absurd (omega (arith, some))
 group_more (suc more) n some many = let e : suc more - 1 ≡ more = omega arith in rw (le-ltb n 128 many, e) refl
+
+-- the last group
+pub group_last : (more n : ℕ) → (more ≡ 0) ⊎ (n < 128) → groups more n ≡ n % 128 ∷ []
+group_last zero n is = refl
+group_last (suc more) n (inl none) = absurd (omega (arith, none))
+group_last (suc more) n (inr few) = rw (lt-ltb n 128 few) refl

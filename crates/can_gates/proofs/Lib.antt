@@ -21,5 +21,6 @@ mod Groups
 mod NamesRead
 mod FilesRead
 mod Joined
+mod TextPieces
 mod Bits
 mod FileRows

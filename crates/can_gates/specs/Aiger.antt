@@ -3,7 +3,7 @@ use Rattle.std.specs.Prelude.{ℕ, zero, suc, ◌+◌, ◌-◌, ◌*◌, ◌==�
 use Rattle.std.specs.List.{flat_map}
 use Rattle.can_gates.specs.declared.literal.Literal.{Literal}
 use Rattle.can_gates.specs.declared.circuit.Gate.{Gate}
-use Rattle.can_gates.specs.declared.aiger.Register.{Register}
+use Rattle.can_gates.specs.declared.register.Register.{Register}
 use Rattle.can_gates.specs.Circuit.{CircuitParts}
 use Rattle.can_gates.specs.Words.{bit}
 
@@ -29,11 +29,15 @@ output_numbers l = literal_code l ∷ []
 abbrev pub gate_numbers : Gate → List ℕ
 gate_numbers g = 2 * g.signal ∷ literal_code g.left ∷ literal_code g.right ∷ []
 
--- the highest signal, how many inputs, registers, outputs and gates there are, and a line for each of these. The last of the
--- circuit's inputs are what the registers hold
+-- the highest signal, and how many inputs, registers, outputs and gates there are. The last of the circuit's inputs are what the
+-- registers hold
+abbrev pub header : CircuitParts → List Register → List Literal → List ℕ
+header c registers outputs = c.highest ∷ (c.inputs - length registers) ∷ length registers ∷ length outputs ∷ length (reverse c.gates) ∷ []
+
+-- these, and a line for each input, register, output and gate
 abbrev pub file_lines : CircuitParts → List Register → List Literal → List (List ℕ)
 file_lines c registers outputs =
-    (c.highest ∷ (c.inputs - length registers) ∷ length registers ∷ length outputs ∷ length (reverse c.gates) ∷ [])
+    header c registers outputs
     ∷ input_lines (c.inputs - length registers) ++ (register_lines (c.inputs - length registers) registers ++ (map output_numbers outputs ++ map gate_numbers (reverse c.gates)))
 
 -- ---- the text

@@ -4,10 +4,10 @@ use Rattle.std.specs.Prelude.{ℕ, zero, suc, ◌+◌, ◌-◌, ◌*◌, ◌/◌
 use Rattle.std.specs.List.{flat_map}
 use Rattle.can_gates.specs.declared.literal.Literal.{Literal}
 use Rattle.can_gates.specs.declared.circuit.Gate.{Gate}
-use Rattle.can_gates.specs.declared.aiger.Register.{Register}
+use Rattle.can_gates.specs.declared.register.Register.{Register}
 use Rattle.can_gates.specs.Circuit.{CircuitParts}
 use Rattle.can_gates.specs.Words.{bit}
-use Rattle.can_gates.specs.Aiger.{literal_code, line_text, output_numbers}
+use Rattle.can_gates.specs.Aiger.{header, literal_code, line_text, output_numbers}
 use Rattle.can_gates.specs.declared.files.words.Names.{Names}
 use Rattle.can_gates.specs.Named.{names_text}
 
@@ -25,7 +25,7 @@ gate_bytes g = groups 9 (2 * g.signal - literal_code g.left) ++ groups 9 (litera
 
 abbrev pub binary_text : Names → CircuitParts → List Register → List Literal → List ℕ
 binary_text n c registers outputs =
-    codes "aig " ++ (line_text (c.highest ∷ (c.inputs - length registers) ∷ length registers ∷ length outputs ∷ length (reverse c.gates) ∷ [])
+    codes "aig " ++ (line_text (header c registers outputs)
     ++ (flat_map line_text (map register_numbers registers) ++ (flat_map line_text (map output_numbers outputs) ++ (flat_map gate_bytes (reverse c.gates) ++ names_text n))))
 
 -- ---- a reader of gates

@@ -3,9 +3,9 @@ use Rattle.std.specs.Prelude.{ℕ, zero, suc, ◌+◌, ◌-◌, ◌==◌, if◌t
 use Rattle.std.specs.List.{flat_map}
 use Rattle.can_gates.specs.declared.literal.Literal.{Literal}
 use Rattle.can_gates.specs.declared.circuit.Gate.{Gate}
-use Rattle.can_gates.specs.declared.aiger.Register.{Register}
+use Rattle.can_gates.specs.declared.register.Register.{Register}
 use Rattle.can_gates.specs.Circuit.{CircuitParts}
-use Rattle.can_gates.specs.Aiger.{numbers_in, output_numbers}
+use Rattle.can_gates.specs.Aiger.{header, numbers_in, output_numbers}
 use Rattle.can_gates.specs.declared.files.words.Word.{Word}
 use Rattle.can_gates.specs.declared.files.words.Names.{Names}
 use Rattle.can_gates.specs.Names.{bits_of_word}
@@ -82,5 +82,4 @@ names_lines n =
 
 -- the lines of a binary file: its header, registers and outputs
 abbrev pub binary_lines : CircuitParts → List Register → List Literal → List (List ℕ)
-binary_lines c registers outputs =
-    (c.highest ∷ (c.inputs - length registers) ∷ length registers ∷ length outputs ∷ length (reverse c.gates) ∷ []) ∷ (map register_numbers registers ++ map output_numbers outputs)
+binary_lines c registers outputs = header c registers outputs ∷ (map register_numbers registers ++ map output_numbers outputs)

@@ -13,3 +13,4 @@ pub mod Binary
 pub mod Readable
 pub mod Module
 pub mod Files
+pub mod Texts

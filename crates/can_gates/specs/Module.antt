@@ -4,7 +4,7 @@ use Rattle.std.specs.List.{flat_map}
 use Rattle.std.specs.Str.{bytes_eq}
 use Rattle.std.specs.Str.Parse.{digits_value}
 use Rattle.can_gates.specs.declared.literal.Literal.{Literal}
-use Rattle.can_gates.specs.declared.aiger.Register.{Register}
+use Rattle.can_gates.specs.declared.register.Register.{Register}
 use Rattle.can_gates.specs.Circuit.{CircuitParts}
 use Rattle.can_gates.specs.declared.files.words.Word.{Word}
 use Rattle.can_gates.specs.declared.files.words.Names.{Names}

@@ -20,11 +20,13 @@
 //! | `sums.rt` | sums and differences, with a carry or up to the least and the greatest number | `specs/Words.antt` |
 //! | `orders.rt` | which of two numbers is less, and whether they are equal | `specs/Words.antt` |
 //! | `select.rt` | the literal at a place that a number tells | `specs/Words.antt` |
-//! | `aiger.rt` | [`Register`], and the text of a circuit with registers and outputs in AIGER's ascii format; lines of numbers | `specs/Aiger.antt` |
+//! | `register.rt` | [`Register`] | |
 //! | `files/words.rt` | [`Names`], [`Word`], and the places of words | `specs/Names.antt` |
-//! | `files/verilog.rt` | [`push_verilog`]: a module of Verilog-2001, whose statements have three forms, and [`modules_are_read_back`] | `specs/Verilog.antt`, `specs/Module.antt` |
+//! | `files/text.rt` | a text, written piece by piece | `specs/Texts.antt` |
+//! | `files/verilog.rt` | [`verilog_file`]: a module of Verilog-2001, whose statements have three forms, and [`modules_are_read_back`] | `specs/Verilog.antt`, `specs/Module.antt` |
 //! | `files/statements.rt` | these statements, and [`statements_are_read_back`] | `specs/Statements.antt` |
-//! | `files/aiger.rt` | [`push_ascii`] and [`push_binary`]: AIGER files; [`ascii_files_are_read_back`], [`binary_files_are_read_back`] and [`gates_are_read_back`] | `specs/Named.antt`, `specs/Binary.antt`, `specs/Files.antt` |
+//! | `files/lines.rt` | lines of numbers, and [`lines_are_read_back`] | `specs/Aiger.antt` |
+//! | `files/aiger.rt` | [`ascii_file`] and [`binary_file`]: AIGER files; [`ascii_files_are_read_back`], [`binary_files_are_read_back`] and [`gates_are_read_back`] | `specs/Named.antt`, `specs/Binary.antt`, `specs/Files.antt` |
 //! | `files/symbols.rt` | their names, and [`symbols_are_read_back`] | `specs/Named.antt` |
 //! | `files/pieces.rt` | literals and names as texts | |
 //!
@@ -35,23 +37,23 @@
 //! used, so the laws need nothing of it; that equal gates are made once is tested (tests/rows).
 #![tactic(auto)]
 
-mod aiger;
 mod chains;
 mod choices;
 mod circuit;
 mod files;
 mod literal;
 mod orders;
+mod register;
 mod select;
 mod sums;
 mod words;
 
-pub use aiger::{Register, lines_are_read_back, push_aiger, push_line, push_number};
 pub use circuit::{Circuit, Gate};
 pub use files::{
-    Names, Word, ascii_files_are_read_back, binary_files_are_read_back, gates_are_read_back,
-    modules_are_read_back, push_ascii, push_binary, push_verilog, statements_are_read_back,
-    symbols_are_read_back,
+    Names, Word, ascii_file, ascii_files_are_read_back, binary_file, binary_files_are_read_back,
+    gates_are_read_back, lines_are_read_back, modules_are_read_back, statements_are_read_back,
+    symbols_are_read_back, verilog_file,
 };
 pub use literal::{FALSE, Literal, TRUE};
+pub use register::Register;
 pub use words::{constant, literal_at};

@@ -5,7 +5,7 @@ use Rattle.std.proofs.Math.Dec.{eqb}
 use Rattle.std.proofs.lemmas.Bool.{cases_lt, cases_eq, ne_eqb}
 use Rattle.std.proofs.lemmas.List.{get_or_append_left, get_or_push}
 use Rattle.can_gates.specs.declared.literal.Literal.{Literal}
-use Rattle.can_gates.specs.declared.aiger.Register.{Register}
+use Rattle.can_gates.specs.declared.register.Register.{Register}
 use Rattle.can_gates.specs.Circuit.{value, CircuitParts, never}
 use Rattle.can_gates.specs.Words.{number}
 use Rattle.can_gates_mac.specs.declared.nibble.Nibble.{Nibble}

@@ -5,7 +5,7 @@ use Rattle.can_frame.specs.Parts.{Parts}
 use Rattle.can_fault.specs.Counters.{is_passive, is_bus_off}
 use Rattle.can_mac.specs.State.{MacState, idle, joining}
 use Rattle.can_mac.specs.Machine.{mac_drives}
-use Rattle.can_gates.specs.declared.aiger.Register.{Register}
+use Rattle.can_gates.specs.declared.register.Register.{Register}
 use Rattle.can_gates.specs.Circuit.{value, Keeps, CircuitParts, never}
 use Rattle.can_gates.specs.Words.{number}
 use Rattle.can_gates_mac.specs.Nibbles.{nibble}

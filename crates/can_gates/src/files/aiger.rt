@@ -1,9 +1,9 @@
 //! AIGER, with names.
-ghost use Rattle.std.specs.Prelude.{◌≡◌, ◌+◌, ◌-◌, ◌≤◌, ◌<◌, ◌^◌, ◌++◌, ℕ, List, [], true, length, map, reverse, OnOk};
+ghost use Rattle.std.specs.Prelude.{◌≡◌, ◌+◌, ◌-◌, ◌≤◌, ◌<◌, ◌^◌, ◌++◌, ℕ, List, [], true, length, map, reverse, IfOk};
 ghost use Rattle.std.specs.List.{flat_map};
-ghost use Rattle.can_gates.specs.declared.aiger.Register.{Register as RegisterParts};
+ghost use Rattle.can_gates.specs.declared.register.Register.{Register as RegisterParts};
 ghost use Rattle.can_gates.specs.declared.literal.Literal.{Literal as Side};
-ghost use Rattle.can_gates.specs.Aiger.{line_text, file_lines, output_numbers};
+ghost use Rattle.can_gates.specs.Aiger.{line_text, file_lines};
 ghost use Rattle.can_gates.specs.AigerNumbers.{AreLines};
 ghost use Rattle.can_gates.specs.Circuit.{CircuitParts};
 ghost use Rattle.can_gates.specs.Ordered.{IsOrdered};
@@ -12,111 +12,102 @@ ghost use Rattle.can_gates.specs.Binary.{binary_text, gate_bytes, gates_in, grou
 ghost use Rattle.can_gates.specs.Files.{binary_lines, names_lines, read_ascii, read_binary};
 ghost use Rattle.can_gates.specs.Named.{ascii_text};
 ghost use Rattle.can_gates.specs.Readable.{AreReadable};
+ghost use Rattle.can_gates.specs.Texts.{Writes};
 
+use crate::circuit::{Circuit, Gate};
+use crate::files::lines::{push_header, push_line, push_numbers, push_outputs};
 use crate::files::symbols::push_names;
-use crate::files::words::Names;
-use crate::{Circuit, Gate, Literal, Register, push_aiger, push_line};
+use crate::files::text::Text;
+use crate::files::words::{AllBits, Names};
+use crate::literal::{Literal, bit_of};
+use crate::register::Register;
 use std::alloc::{AllocError, Global};
 
-/// Appends an AIGER file in the ascii format: a circuit whose last inputs are what these registers hold, in their order, its
-/// names, and their meaning in a comment. It refuses where memory runs out, and a circuit that lacks a gate since it did.
-pub fn push_ascii(
-    alloc: Global,
-    out: &mut Vec<u8>,
-    names: &Names<'_>,
-    circuit: &Circuit,
-    registers: &[Register],
-    outputs: &[Literal],
-) -> Result<(), AllocError>
-    requires { length registers.now ≤ circuit.now.inputs }
-    ensures text { OnOk result (out.new.items ≡ out.old.items ++ ascii_text names.now circuit.now registers.now outputs.now) }
-    ensures complete { OnOk result (circuit.now.complete ≡ true) }
-{
-    push_aiger(out, circuit, registers, outputs)?;
-    push_names(alloc, out, names)
-}
+/// How many groups of seven bits a number may have behind its first one.
+const MORE_GROUPS: u32 = 9;
 
-/// The same in the binary format.
-pub fn push_binary(
+/// An AIGER file in the ascii format: a circuit whose last inputs are what these registers hold, in their order, its names, and
+/// their meaning in a comment. It refuses where memory runs out, and a circuit that lacks a gate since it did.
+pub fn ascii_file(
     alloc: Global,
-    out: &mut Vec<u8>,
     names: &Names<'_>,
     circuit: &Circuit,
     registers: &[Register],
     outputs: &[Literal],
-) -> Result<(), AllocError>
+) -> Result<Vec<u8>, AllocError>
     requires { length registers.now ≤ circuit.now.inputs }
-    ensures text { OnOk result (out.new.items ≡ out.old.items ++ binary_text names.now circuit.now registers.now outputs.now) }
-    ensures complete { OnOk result (circuit.now.complete ≡ true) }
+    ensures text { IfOk result (λ r. r.items ≡ ascii_text names.now circuit.now registers.now outputs.now) }
+    ensures complete { IfOk result (λ r. circuit.now.complete ≡ true) }
 {
     if !circuit.is_complete() {
         return Err(AllocError);
     }
-    let gates = circuit.gates();
-    let inputs = u64::from(circuit.inputs()) - registers.len() as u64;
-    out.extend_from_slice(b"aig ")?;
-    push_line(
-        out,
-        u64::from(circuit.highest()),
-        &[
-            inputs,
-            registers.len() as u64,
-            outputs.len() as u64,
-            gates.len() as u64,
-        ],
-    )?;
-    push_registers(out, registers)?;
-    push_outputs(out, outputs)?;
-    push_gates(out, gates)?;
-    push_names(alloc, out, names)
+    let bits = AllBits::new(alloc, names)?;
+    let mut text = Text::new(alloc);
+    push_numbers(&mut text, circuit, registers, outputs);
+    push_names(&mut text, names, &bits);
+    text.finished()
+}
+
+/// The same in the binary format.
+pub fn binary_file(
+    alloc: Global,
+    names: &Names<'_>,
+    circuit: &Circuit,
+    registers: &[Register],
+    outputs: &[Literal],
+) -> Result<Vec<u8>, AllocError>
+    requires { length registers.now ≤ circuit.now.inputs }
+    ensures text { IfOk result (λ r. r.items ≡ binary_text names.now circuit.now registers.now outputs.now) }
+    ensures complete { IfOk result (λ r. circuit.now.complete ≡ true) }
+{
+    if !circuit.is_complete() {
+        return Err(AllocError);
+    }
+    let bits = AllBits::new(alloc, names)?;
+    let mut text = Text::new(alloc);
+    text.push(b"aig ");
+    push_header(&mut text, circuit, registers, outputs);
+    push_registers(&mut text, registers);
+    push_outputs(&mut text, outputs);
+    push_gates(&mut text, circuit.gates());
+    push_names(&mut text, names, &bits);
+    text.finished()
 }
 
 /// Appends the lines of registers.
-fn push_registers(out: &mut Vec<u8>, registers: &[Register]) -> Result<(), AllocError>
-    ensures { OnOk result (out.new.items ≡ out.old.items ++ flat_map line_text (map register_numbers registers.now)) }
+fn push_registers(text: &mut Text, registers: &[Register])
+    ensures { Writes text.old text.new (flat_map line_text (map register_numbers registers.now)) }
 {
     for register in registers {
-        push_line(out, register.next.code(), &[u64::from(register.starts)])?;
+        push_line(text, register.next.code(), &[bit_of(register.starts)]);
     }
-    Ok(())
-}
-
-/// Appends the lines of outputs.
-fn push_outputs(out: &mut Vec<u8>, outputs: &[Literal]) -> Result<(), AllocError>
-    ensures { OnOk result (out.new.items ≡ out.old.items ++ flat_map line_text (map output_numbers outputs.now)) }
-{
-    for output in outputs {
-        push_line(out, output.code(), &[])?;
-    }
-    Ok(())
 }
 
 /// Appends the numbers of gates.
-fn push_gates(out: &mut Vec<u8>, gates: &[Gate]) -> Result<(), AllocError>
-    ensures { OnOk result (out.new.items ≡ out.old.items ++ flat_map gate_bytes gates.now) }
+fn push_gates(text: &mut Text, gates: &[Gate])
+    ensures { Writes text.old text.new (flat_map gate_bytes gates.now) }
 {
     for gate in gates {
         let signal = 2 * u64::from(gate.signal);
         let (left, right) = (gate.left.code(), gate.right.code());
-        push_groups(out, signal.saturating_sub(left))?;
-        push_groups(out, left.saturating_sub(right))?;
+        push_groups(text, signal.saturating_sub(left), MORE_GROUPS);
+        push_groups(text, left.saturating_sub(right), MORE_GROUPS);
     }
-    Ok(())
 }
 
-/// Appends a number in groups of seven bits, the lowest first.
-fn push_groups(out: &mut Vec<u8>, number: u64) -> Result<(), AllocError>
-    ensures { OnOk result (out.new.items ≡ out.old.items ++ groups 9 number) }
+/// Appends a number in groups of seven bits, the lowest first, with so many more at most.
+fn push_groups(text: &mut Text, number: u64, most: u32)
+    ensures { Writes text.old text.new (groups most number) }
 {
     let mut rest = number;
-    let mut more = 9u32;
+    let mut more = most;
     while more > 0 && rest >= 128 {
-        out.push(128 + (rest % 128) as u8)?;
+        text.push_byte(128 + (rest % 128) as u8);
         rest /= 128;
         more -= 1;
     }
-    out.push((rest % 128) as u8)?;
-    Ok(())
+    text.push_byte((rest % 128) as u8);
 }
 
 /// The gates of a circuit that stand in their order are read back of the bytes of its binary file. It does nothing.

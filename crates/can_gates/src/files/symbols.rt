@@ -1,84 +1,76 @@
 //! The names of an AIGER file, and their meaning.
-ghost use Rattle.std.specs.Prelude.{◌≡◌, ◌++◌, [], List, map, OnOk};
+ghost use Rattle.std.specs.Prelude.{◌≡◌, ◌++◌, [], List, map};
 ghost use Rattle.std.specs.List.{flat_map};
 ghost use Rattle.can_gates.specs.Named.{Symbol, AreSymbols, comment_text, meaning_line, meaning_text, names_text, symbol_text, symbol_words, symbols};
-ghost use Rattle.can_gates.specs.Names.{bit_text};
+ghost use Rattle.can_gates.specs.Names.{bit_text, AreBitsOf};
 ghost use Rattle.can_gates.specs.Statements.{words_by_line};
+ghost use Rattle.can_gates.specs.Texts.{Writes};
 
 use crate::files::pieces::push_bit;
-use crate::files::words::{Bit, Names, Word, bits_of};
-use crate::push_number;
-use std::alloc::{AllocError, Global};
+use crate::files::text::Text;
+use crate::files::words::{AllBits, Bit, Names, Word};
 
 /// Appends the names of inputs, registers and outputs, and a comment with their meaning.
-pub(crate) fn push_names(
-    alloc: Global,
-    out: &mut Vec<u8>,
-    names: &Names<'_>,
-) -> Result<(), AllocError>
-    ensures { OnOk result (out.new.items ≡ out.old.items ++ names_text names.now) }
+pub(crate) fn push_names(text: &mut Text, names: &Names<'_>, bits: &AllBits<'_>)
+    requires { AreBitsOf names.now bits.now }
+    ensures { Writes text.old text.new (names_text names.now) }
 {
-    let taken = bits_of(alloc, names.inputs)?;
-    let held = bits_of(alloc, names.registers)?;
-    let given = bits_of(alloc, names.outputs)?;
-    push_symbols(out, b"i", &taken)?;
-    push_symbols(out, b"l", &held)?;
-    push_symbols(out, b"o", &given)?;
-    push_comment(out, names)
+    push_symbols(text, b"i", &bits.inputs);
+    push_symbols(text, b"l", &bits.registers);
+    push_symbols(text, b"o", &bits.outputs);
+    push_comment(text, names);
 }
 
 /// Appends a line for each of these names, of inputs, registers or outputs by their letter.
-fn push_symbols(out: &mut Vec<u8>, kind: &[u8], bits: &[Bit<'_>]) -> Result<(), AllocError>
-    ensures { OnOk result (out.new.items ≡ out.old.items ++ flat_map symbol_text (symbols kind.now 0 bits.now)) }
+fn push_symbols(text: &mut Text, kind: &[u8], bits: &[Bit<'_>])
+    ensures { Writes text.old text.new (flat_map symbol_text (symbols kind.now 0 bits.now)) }
 {
     let mut place = 0u64;
     for bit in bits {
-        push_symbol(out, kind, place, bit)?;
+        push_symbol(text, kind, place, bit);
         place += 1;
     }
-    Ok(())
 }
 
 /// Appends the line of a name.
-fn push_symbol(out: &mut Vec<u8>, kind: &[u8], place: u64, bit: &Bit<'_>) -> Result<(), AllocError>
-    ensures { OnOk result (out.new.items ≡ out.old.items ++ symbol_text (record { kind = kind.now; place = place; name = bit_text bit.now })) }
+fn push_symbol(text: &mut Text, kind: &[u8], place: u64, bit: &Bit<'_>)
+    ensures { Writes text.old text.new (symbol_text (record { kind = kind.now; place = place; name = bit_text bit.now })) }
 {
-    out.extend_from_slice(kind)?;
-    push_number(out, place)?;
-    out.extend_from_slice(b" ")?;
-    push_bit(out, bit)?;
-    out.extend_from_slice(b"\n")
+    text.push(kind);
+    text.push_number(place);
+    text.push(b" ");
+    push_bit(text, bit);
+    text.push(b"\n");
 }
 
 /// Appends the comment.
-fn push_comment(out: &mut Vec<u8>, names: &Names<'_>) -> Result<(), AllocError>
-    ensures { OnOk result (out.new.items ≡ out.old.items ++ comment_text names.now) }
+fn push_comment(text: &mut Text, names: &Names<'_>)
+    ensures { Writes text.old text.new (comment_text names.now) }
 {
-    out.extend_from_slice(b"c\n")?;
-    push_meaning(out, names.circuit, names.meaning)?;
-    push_meanings(out, names.inputs)?;
-    push_meanings(out, names.registers)?;
-    push_meanings(out, names.outputs)
+    text.push(b"c\n");
+    push_meaning(text, names.circuit, names.meaning);
+    push_meanings(text, names.inputs);
+    push_meanings(text, names.registers);
+    push_meanings(text, names.outputs);
 }
 
 /// Appends a line for each of these words.
-fn push_meanings(out: &mut Vec<u8>, words: &[Word<'_>]) -> Result<(), AllocError>
-    ensures { OnOk result (out.new.items ≡ out.old.items ++ flat_map meaning_text words.now) }
+fn push_meanings(text: &mut Text, words: &[Word<'_>])
+    ensures { Writes text.old text.new (flat_map meaning_text words.now) }
 {
     for word in words {
-        push_meaning(out, word.name, word.meaning)?;
+        push_meaning(text, word.name, word.meaning);
     }
-    Ok(())
 }
 
 /// Appends a name and its meaning in a line.
-fn push_meaning(out: &mut Vec<u8>, name: &str, meaning: &str) -> Result<(), AllocError>
-    ensures { OnOk result (out.new.items ≡ out.old.items ++ meaning_line name.now meaning.now) }
+fn push_meaning(text: &mut Text, name: &str, meaning: &str)
+    ensures { Writes text.old text.new (meaning_line name.now meaning.now) }
 {
-    out.extend_from_slice(name.as_bytes())?;
-    out.extend_from_slice(b": ")?;
-    out.extend_from_slice(meaning.as_bytes())?;
-    out.extend_from_slice(b"\n")
+    text.push(name.as_bytes());
+    text.push(b": ");
+    text.push(meaning.as_bytes());
+    text.push(b"\n");
 }
 
 /// The lines of names that have no blank, no semicolon and no end of a line are read back. It does nothing.

@@ -1,7 +1,7 @@
 //! Names of literals.
 ghost use Rattle.std.specs.Prelude.{◌≡◌, ◌++◌, IfOk, OnOk};
 ghost use Rattle.std.specs.List.{flat_map};
-ghost use Rattle.can_gates.specs.Names.{bits_of_word, numbered};
+ghost use Rattle.can_gates.specs.Names.{bits_of_word, numbered, AreBitsOf};
 
 use std::alloc::{AllocError, Global};
 
@@ -38,6 +38,30 @@ pub(crate) struct Bit<'a> {
     pub(crate) name: &'a str,
     /// The literal's place, where the word has others.
     pub(crate) place: Option<u32>,
+}
+
+/// The name of each literal that a file names.
+#[derive(Drop)]
+pub(crate) struct AllBits<'a> {
+    /// Of what a circuit takes.
+    pub(crate) inputs: Vec<Bit<'a>>,
+    /// Of what it holds.
+    pub(crate) registers: Vec<Bit<'a>>,
+    /// Of what it gives.
+    pub(crate) outputs: Vec<Bit<'a>>,
+}
+
+impl<'a> AllBits<'a> {
+    /// Those of these names.
+    pub(crate) fn new(alloc: Global, names: &Names<'a>) -> Result<AllBits<'a>, AllocError>
+        ensures { IfOk result (AreBitsOf names.now) }
+    {
+        Ok(AllBits {
+            inputs: bits_of(alloc, names.inputs)?,
+            registers: bits_of(alloc, names.registers)?,
+            outputs: bits_of(alloc, names.outputs)?,
+        })
+    }
 }
 
 /// The name of each literal of these words.

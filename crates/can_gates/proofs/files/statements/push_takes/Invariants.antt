@@ -2,10 +2,11 @@ use Rattle.std.proofs.Common.{◌≡◌, ◌++◌, drop}
 use Rattle.std.specs.List.{flat_map}
 use Rattle.can_gates.specs.Statements.{statement_text}
 use Rattle.can_gates.specs.Verilog.{takes}
+use Rattle.can_gates.proofs.TextPieces.{LeavesOf}
 use Rattle.can_gates.proofs.files.statements.push_takes.Given as goal
 
 -- with those of the names from here on, these are all statements
 abbrev pub invariant-loop-bit : goal.invariant-loop-bit
 invariant-loop-bit l =
     (l.place ≡ l.bit-index)
-    × (l.out.items ++ flat_map statement_text (takes l.place (drop l.bit-index l.bits) l.registers) ≡ l.fn.out.items ++ flat_map statement_text (takes 0 l.bits l.registers))
+    × LeavesOf (flat_map statement_text (takes l.place (drop l.bit-index l.bits) l.registers)) (flat_map statement_text (takes 0 l.bits l.registers)) l.fn.text l.text

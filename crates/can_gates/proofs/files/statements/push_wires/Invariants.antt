@@ -2,8 +2,9 @@ use Rattle.std.proofs.Common.{◌≡◌, ◌+◌, ◌++◌, drop}
 use Rattle.std.specs.List.{flat_map}
 use Rattle.can_gates.specs.Statements.{statement_text}
 use Rattle.can_gates.specs.Verilog.{wires}
+use Rattle.can_gates.proofs.TextPieces.{LeavesOf}
 use Rattle.can_gates.proofs.files.statements.push_wires.Given as goal
 
 -- with those of the names from here on, these are all wires
 abbrev pub invariant-loop-bit : goal.invariant-loop-bit
-invariant-loop-bit l = (l.signal ≡ l.bit-index + 1) × (l.out.items ++ flat_map statement_text (wires l.signal (drop l.bit-index l.bits)) ≡ l.fn.out.items ++ flat_map statement_text (wires 1 l.bits))
+invariant-loop-bit l = (l.signal ≡ l.bit-index + 1) × LeavesOf (flat_map statement_text (wires l.signal (drop l.bit-index l.bits))) (flat_map statement_text (wires 1 l.bits)) l.fn.text l.text

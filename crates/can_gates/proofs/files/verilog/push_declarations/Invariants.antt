@@ -1,9 +1,10 @@
 use Rattle.std.proofs.Common.{◌≡◌, ◌++◌, drop}
 use Rattle.std.specs.List.{flat_map}
 use Rattle.can_gates.specs.Verilog.{declaration_text}
+use Rattle.can_gates.proofs.TextPieces.{LeavesOf}
 use Rattle.can_gates.proofs.files.verilog.push_declarations.Given as goal
 
 -- with those of the words from here on, these are all declarations
 abbrev pub invariant-loop-word : goal.invariant-loop-word
 invariant-loop-word l =
-    l.out.items ++ flat_map (declaration_text l.kind) (drop l.word-index l.words) ≡ l.fn.out.items ++ flat_map (declaration_text l.kind) l.words
+    LeavesOf (flat_map (declaration_text l.kind) (drop l.word-index l.words)) (flat_map (declaration_text l.kind) l.words) l.fn.text l.text

@@ -1,8 +1,0 @@
-use Rattle.std.proofs.Common.{◌≡◌, ◌++◌, map, drop}
-use Rattle.std.specs.List.{flat_map}
-use Rattle.can_gates.specs.Aiger.{gate_numbers, line_text}
-use Rattle.can_gates.proofs.aiger.push_gates.Given as goal
-
--- with the lines of those from here on, these are all lines
-abbrev pub invariant-loop-gate : goal.invariant-loop-gate
-invariant-loop-gate l = l.out.items ++ flat_map line_text (map gate_numbers (drop l.gate-index l.gates)) ≡ l.fn.out.items ++ flat_map line_text (map gate_numbers l.gates)
