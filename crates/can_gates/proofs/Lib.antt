@@ -11,7 +11,6 @@ pub mod WordPlaces
 pub mod SumPlaces
 pub mod OrderPlaces
 pub mod Halves
-pub mod AigerTexts
 pub mod Rows
 mod Blocks
 mod Reading
@@ -20,7 +19,5 @@ mod Modules
 mod Groups
 mod NamesRead
 mod FilesRead
-mod Joined
-mod TextPieces
-mod Bits
+mod Pieces
 mod FileRows

@@ -1,10 +1,10 @@
 //! The files of the controller's circuit.
-ghost use Rattle.std.specs.Prelude.{◌≡◌, ◌≤◌, ◌++◌, length, IfOk, OnOk};
+ghost use Rattle.std.specs.Prelude.{◌≡◌, ◌≤◌, length, IfOk};
 ghost use Rattle.cangates.specs.Files.{IsFile, text_in};
 
 use crate::names::names;
 use crate::words::Form;
-use can_gates::{Circuit, Literal, Names, Register, push_ascii, push_binary, push_verilog};
+use can_gates::{Circuit, Literal, Names, Register, ascii_file, binary_file, verilog_file};
 use can_gates_controller::controller_circuit;
 use std::alloc::{AllocError, Global};
 
@@ -37,27 +37,9 @@ fn text(
     requires { length registers.now ≤ circuit.now.inputs }
     ensures { IfOk result (λ r. r.items ≡ text_in form names.now circuit.now registers.now outputs.now) }
 {
-    let mut out = Vec::new(alloc);
-    push(alloc, &mut out, form, names, circuit, registers, outputs)?;
-    Ok(out)
-}
-
-/// Appends it.
-fn push(
-    alloc: Global,
-    out: &mut Vec<u8>,
-    form: Form,
-    names: &Names<'_>,
-    circuit: &Circuit,
-    registers: &[Register],
-    outputs: &[Literal],
-) -> Result<(), AllocError>
-    requires { length registers.now ≤ circuit.now.inputs }
-    ensures { OnOk result (out.new.items ≡ out.old.items ++ text_in form names.now circuit.now registers.now outputs.now) }
-{
     match form {
-        Form::Verilog => push_verilog(alloc, out, names, circuit, registers, outputs),
-        Form::Ascii => push_ascii(alloc, out, names, circuit, registers, outputs),
-        Form::Binary => push_binary(alloc, out, names, circuit, registers, outputs),
+        Form::Verilog => verilog_file(alloc, names, circuit, registers, outputs),
+        Form::Ascii => ascii_file(alloc, names, circuit, registers, outputs),
+        Form::Binary => binary_file(alloc, names, circuit, registers, outputs),
     }
 }

@@ -1,5 +1,5 @@
 //! Literals and names as texts.
-ghost use Rattle.std.specs.Prelude.{◌≡◌, ◌++◌};
+ghost use Rattle.std.specs.Prelude.{◌≡◌, ◌++◌, codes, decimal};
 ghost use Rattle.can_gates.specs.Names.{bit_text, place_text};
 ghost use Rattle.can_gates.specs.Statements.{literal_text};
 ghost use Rattle.can_gates.specs.Texts.{Writes};
@@ -30,8 +30,15 @@ fn push_place(text: &mut Text, place: Option<u32>)
     ensures { Writes text.old text.new (place_text place) }
 {
     if let Some(place) = place {
-        text.push(b"[");
-        text.push_number(u64::from(place));
-        text.push(b"]");
+        push_index(text, place);
     }
+}
+
+/// Appends a place in brackets.
+fn push_index(text: &mut Text, place: u32)
+    ensures { Writes text.old text.new (codes "[" ++ (decimal place ++ codes "]")) }
+{
+    text.push(b"[");
+    text.push_number(u64::from(place));
+    text.push(b"]");
 }

@@ -1,5 +1,5 @@
 //! Modules of Verilog-2001.
-ghost use Rattle.std.specs.Prelude.{◌≡◌, ◌++◌, List, true, IfOk};
+ghost use Rattle.std.specs.Prelude.{◌≡◌, ◌++◌, List, true, codes, decimal, IfOk};
 ghost use Rattle.std.specs.List.{flat_map};
 ghost use Rattle.can_gates.specs.declared.register.Register.{Register as RegisterParts};
 ghost use Rattle.can_gates.specs.declared.literal.Literal.{Literal as Side};
@@ -126,10 +126,18 @@ fn push_width(text: &mut Text, places: u32)
     ensures { Writes text.old text.new (width_text places) }
 {
     if places == 1 {
-        return text.push(b" ");
+        text.push(b" ");
+    } else {
+        push_range(text, places.saturating_sub(1));
     }
+}
+
+/// Appends places, the highest of which is this one.
+fn push_range(text: &mut Text, highest: u32)
+    ensures { Writes text.old text.new (codes " [" ++ (decimal highest ++ codes ":0] ")) }
+{
     text.push(b" [");
-    text.push_number(u64::from(places.saturating_sub(1)));
+    text.push_number(u64::from(highest));
     text.push(b":0] ");
 }
 

@@ -79,11 +79,21 @@ pub(crate) fn bits_of<'a>(alloc: Global, words: &[Word<'a>]) -> Result<Vec<Bit<'
 fn push_bits<'a>(out: &mut Vec<Bit<'a>>, word: &Word<'a>) -> Result<(), AllocError>
     ensures { OnOk result (out.new.items ≡ out.old.items ++ bits_of_word word.now) }
 {
-    let name = word.name;
-    if word.places == 1 {
-        out.push(Bit { name, place: None })?;
-        return Ok(());
+    if word.places != 1 {
+        return push_numbered(out, word);
     }
+    out.push(Bit {
+        name: word.name,
+        place: None,
+    })?;
+    Ok(())
+}
+
+/// Appends the name of each literal of a word, with its place.
+fn push_numbered<'a>(out: &mut Vec<Bit<'a>>, word: &Word<'a>) -> Result<(), AllocError>
+    ensures { OnOk result (out.new.items ≡ out.old.items ++ numbered word.now word.now.places) }
+{
+    let name = word.name;
     for place in 0..word.places {
         out.push(Bit {
             name,

@@ -1,7 +1,7 @@
-use Rattle.std.proofs.Common.{◌≡◌, ◌++◌, drop}
+use Rattle.std.proofs.Common.{drop}
 use Rattle.std.specs.List.{flat_map}
 use Rattle.can_gates.specs.Binary.{gate_bytes}
-use Rattle.can_gates.proofs.TextPieces.{LeavesOf}
+use Rattle.can_gates.proofs.Pieces.{LeavesOf}
 use Rattle.can_gates.proofs.files.aiger.push_gates.Given as goal
 
 -- with those of the gates from here on, these are all bytes

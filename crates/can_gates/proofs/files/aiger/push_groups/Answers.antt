@@ -10,7 +10,7 @@ returns c = λ complete.
     let pushed = c.push_byte-2.ensures complete in
     let before = l.invariant pushed.0 in
     let last : groups l.more l.rest ≡ l.rest % 128 ∷ [] =
-        group_last l.more l.rest (elim c.loop-more-test.branch [ then-loop-more-test+else-rest-ge128 w ↦ inr (omega (arith, w.if-rest-ge128.false)) | else-loop-more-test w ↦ inl (omega (arith, w.loop-more-test.false)) ]) in
+    group_last l.more l.rest (elim c.loop-more-test.branch [ then-loop-more-test+else-rest-ge128 w ↦ inr (omega (arith, w.if-rest-ge128.false)) | else-loop-more-test w ↦ inl (omega (arith, w.loop-more-test.false)) ]) in
     (before.0, pushed.1 ∙ ap (λ bytes. l.text.bytes.items ++ bytes) (sym last) ∙ before.1)
 
 pub loop-more-preserved : goal.loop-more-preserved

@@ -1,6 +1,5 @@
-use Rattle.std.proofs.Common.{◌≡◌, ◌++◌}
 use Rattle.can_gates.specs.Binary.{groups}
-use Rattle.can_gates.proofs.TextPieces.{LeavesOf}
+use Rattle.can_gates.proofs.Pieces.{LeavesOf}
 use Rattle.can_gates.proofs.files.aiger.push_groups.Given as goal
 
 -- with the groups of what is left, these are all groups

@@ -1,6 +1,6 @@
-use Rattle.std.proofs.Common.{◌≡◌, ◌++◌, decimal, drop}
+use Rattle.std.proofs.Common.{◌++◌, decimal, drop}
 use Rattle.can_gates.specs.Aiger.{numbers_behind}
-use Rattle.can_gates.proofs.TextPieces.{LeavesOf}
+use Rattle.can_gates.proofs.Pieces.{LeavesOf}
 use Rattle.can_gates.proofs.files.lines.push_line.Given as goal
 
 -- with those from here on, these are all numbers

@@ -1,7 +1,7 @@
-use Rattle.std.proofs.Common.{◌≡◌, ◌+◌, ◌++◌, drop}
+use Rattle.std.proofs.Common.{◌≡◌, ◌+◌, drop}
 use Rattle.std.specs.List.{flat_map}
 use Rattle.can_gates.specs.Aiger.{register_lines, line_text}
-use Rattle.can_gates.proofs.TextPieces.{LeavesOf}
+use Rattle.can_gates.proofs.Pieces.{LeavesOf}
 use Rattle.can_gates.proofs.files.lines.push_registers.Given as goal
 
 -- with the lines of those from here on, these are all lines

@@ -1,8 +1,8 @@
-use Rattle.std.proofs.Common.{◌≡◌, ◌++◌, drop}
+use Rattle.std.proofs.Common.{◌≡◌, drop}
 use Rattle.std.specs.List.{flat_map}
 use Rattle.can_gates.specs.Statements.{statement_text}
 use Rattle.can_gates.specs.Verilog.{takes}
-use Rattle.can_gates.proofs.TextPieces.{LeavesOf}
+use Rattle.can_gates.proofs.Pieces.{LeavesOf}
 use Rattle.can_gates.proofs.files.statements.push_takes.Given as goal
 
 -- with those of the names from here on, these are all statements

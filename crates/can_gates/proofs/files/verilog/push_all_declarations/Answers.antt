@@ -1,5 +1,5 @@
 use Rattle.can_gates.specs.Verilog.{declarations_text}
-use Rattle.can_gates.proofs.TextPieces.{written}
+use Rattle.can_gates.proofs.Pieces.{written}
 use Rattle.can_gates.proofs.files.verilog.push_all_declarations.Goals as goal
 
 pub returns : goal.returns

@@ -1,7 +1,7 @@
-use Rattle.std.proofs.Common.{◌≡◌, ◌++◌, drop}
+use Rattle.std.proofs.Common.{drop}
 use Rattle.std.specs.List.{flat_map}
 use Rattle.can_gates.specs.Verilog.{declaration_text}
-use Rattle.can_gates.proofs.TextPieces.{LeavesOf}
+use Rattle.can_gates.proofs.Pieces.{LeavesOf}
 use Rattle.can_gates.proofs.files.verilog.push_declarations.Given as goal
 
 -- with those of the words from here on, these are all declarations

@@ -1,5 +1,5 @@
 use Rattle.can_gates.specs.Verilog.{steps_text}
-use Rattle.can_gates.proofs.TextPieces.{written}
+use Rattle.can_gates.proofs.Pieces.{written}
 use Rattle.can_gates.proofs.files.verilog.push_steps.Goals as goal
 
 pub returns : goal.returns
