@@ -1,5 +1,5 @@
 //! Statements of Verilog.
-ghost use Rattle.std.specs.Prelude.{◌≡◌, ◌++◌, [], List, Some, map};
+ghost use Rattle.std.specs.Prelude.{◌≡◌, ◌+◌, ◌<◌, ◌^◌, ◌++◌, [], length, List, Some, map};
 ghost use Rattle.std.specs.List.{flat_map};
 ghost use Rattle.can_gates.specs.Names.{bit_text};
 ghost use Rattle.can_gates.specs.Statements.{Statement, And, Wire, Assign, Take, AreProper, statement_text, statement_in, words_by_line};
@@ -9,16 +9,25 @@ ghost use Rattle.can_gates.specs.Verilog.{assigns, takes, wires, next_of};
 use crate::circuit::Gate;
 use crate::files::pieces::{push_bit, push_literal};
 use crate::files::text::Text;
-use crate::files::words::Bit;
+use crate::files::words::{AllBits, Bit};
 use crate::literal::{FALSE, Literal};
 use crate::register::Register;
 use crate::words::literal_at;
 
-/// Appends a wire for each of these names: of the signals from 1 on.
-pub(crate) fn push_wires(text: &mut Text, bits: &[Bit<'_>])
-    ensures { Writes text.old text.new (flat_map statement_text (wires 1 bits.now)) }
+/// Appends a wire for each name of an input or a register: of the signals from 1 on.
+pub(crate) fn push_signals(text: &mut Text, bits: &AllBits<'_>)
+    ensures { Writes text.old text.new (flat_map statement_text (wires 1 (bits.now.inputs.items ++ bits.now.registers.items))) }
 {
-    let mut signal = 1u64;
+    push_wires(text, 1, &bits.inputs);
+    push_wires(text, 1 + bits.inputs.len() as u64, &bits.registers);
+}
+
+/// Appends a wire for each of these names: of the signals from this one on.
+fn push_wires(text: &mut Text, first: u64, bits: &[Bit<'_>])
+    requires { first + length bits.now < 2 ^ 64 }
+    ensures { Writes text.old text.new (flat_map statement_text (wires first bits.now)) }
+{
+    let mut signal = first;
     for bit in bits {
         push_wire(text, signal, bit);
         signal += 1;

@@ -13,9 +13,9 @@ ghost use Rattle.can_gates.specs.Texts.{Writes};
 ghost use Rattle.can_gates.specs.Verilog.{declaration_text, declarations_text, head_text, port_text, steps_text, title_text, verilog_text, width_text};
 
 use crate::circuit::Circuit;
-use crate::files::statements::{push_assigns, push_gates, push_takes, push_wires};
+use crate::files::statements::{push_assigns, push_gates, push_signals, push_takes};
 use crate::files::text::Text;
-use crate::files::words::{AllBits, Bit, Names, Word, bits_of};
+use crate::files::words::{AllBits, Bit, Names, Word};
 use crate::literal::Literal;
 use crate::register::Register;
 use std::alloc::{AllocError, Global};
@@ -37,11 +37,9 @@ pub fn verilog_file(
         return Err(AllocError);
     }
     let bits = AllBits::new(alloc, names)?;
-    let mut signals = bits_of(alloc, names.inputs)?;
-    signals.extend_from_slice(&bits.registers)?;
     let mut text = Text::new(alloc);
     push_head(&mut text, names);
-    push_wires(&mut text, &signals);
+    push_signals(&mut text, &bits);
     push_gates(&mut text, circuit.gates());
     push_assigns(&mut text, &bits.outputs, outputs);
     push_steps(&mut text, &bits.registers, registers);

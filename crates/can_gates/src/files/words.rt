@@ -6,7 +6,7 @@ ghost use Rattle.can_gates.specs.Names.{bits_of_word, numbered, AreBitsOf};
 use std::alloc::{AllocError, Global};
 
 /// A name of literals that stand side by side, the lowest place of their number first.
-#[derive(Clone, Copy, Debug)]
+#[derive(Clone, Copy)]
 pub struct Word<'a> {
     /// The name, which Verilog takes as one.
     pub name: &'a str,
@@ -17,7 +17,7 @@ pub struct Word<'a> {
 }
 
 /// The names in a file of a circuit.
-#[derive(Clone, Copy, Debug)]
+#[derive(Clone, Copy)]
 pub struct Names<'a> {
     /// The circuit's own name.
     pub circuit: &'a str,

@@ -7,4 +7,4 @@ use Rattle.can_gates.proofs.files.statements.push_wires.Given as goal
 
 -- with those of the names from here on, these are all wires
 abbrev pub invariant-loop-bit : goal.invariant-loop-bit
-invariant-loop-bit l = (l.signal ≡ l.bit-index + 1) × LeavesOf (flat_map statement_text (wires l.signal (drop l.bit-index l.bits))) (flat_map statement_text (wires 1 l.bits)) l.fn.text l.text
+invariant-loop-bit l = (l.signal ≡ l.first + l.bit-index) × LeavesOf (flat_map statement_text (wires l.signal (drop l.bit-index l.bits))) (flat_map statement_text (wires l.first l.bits)) l.fn.text l.text
