@@ -13,4 +13,5 @@ pub mod Binary
 pub mod Readable
 pub mod Module
 pub mod Files
+-- For private calls
 pub mod Texts

@@ -2,9 +2,9 @@
 ghost use Rattle.std.specs.Prelude.{◌≡◌, ◌++◌, [], List, map};
 ghost use Rattle.std.specs.List.{flat_map};
 ghost use Rattle.can_gates.specs.Named.{Symbol, AreSymbols, comment_text, meaning_line, meaning_text, names_text, symbol_text, symbol_words, symbols};
-ghost use Rattle.can_gates.specs.Names.{bit_text, AreBitsOf};
+ghost use Rattle.can_gates.specs.Names.{bit_text};
 ghost use Rattle.can_gates.specs.Statements.{words_by_line};
-ghost use Rattle.can_gates.specs.Texts.{Writes};
+ghost use Rattle.can_gates.specs.Texts.{AreBitsOf, Writes};
 
 use crate::files::pieces::push_bit;
 use crate::files::text::Text;

@@ -1,7 +1,8 @@
 //! Names of literals.
 ghost use Rattle.std.specs.Prelude.{◌≡◌, ◌++◌, IfOk, OnOk};
 ghost use Rattle.std.specs.List.{flat_map};
-ghost use Rattle.can_gates.specs.Names.{bits_of_word, numbered, AreBitsOf};
+ghost use Rattle.can_gates.specs.Names.{bits_of_word, numbered};
+ghost use Rattle.can_gates.specs.Texts.{AreBitsOf};
 
 use std::alloc::{AllocError, Global};
 
