@@ -42,7 +42,7 @@ fn push_wire(text: &mut Text, signal: u64, bit: &Bit<'_>)
     text.push_number(signal);
     text.push(b" = ");
     push_bit(text, bit);
-    text.push(b";\n")
+    text.push(b";\n");
 }
 
 /// Appends the wires of gates.
@@ -64,7 +64,7 @@ fn push_gate(text: &mut Text, gate: Gate)
     push_literal(text, gate.left);
     text.push(b" & ");
     push_literal(text, gate.right);
-    text.push(b";\n")
+    text.push(b";\n");
 }
 
 /// Appends what each of these names is assigned: the output at its place.
@@ -86,7 +86,7 @@ fn push_assign(text: &mut Text, bit: &Bit<'_>, literal: Literal)
     push_bit(text, bit);
     text.push(b" = ");
     push_literal(text, literal);
-    text.push(b";\n")
+    text.push(b";\n");
 }
 
 /// Appends what each of these names takes: what the register at its place does.
@@ -107,7 +107,7 @@ fn push_take(text: &mut Text, bit: &Bit<'_>, literal: Literal)
     push_bit(text, bit);
     text.push(b" <= ");
     push_literal(text, literal);
-    text.push(b";\n")
+    text.push(b";\n");
 }
 
 /// What the register at a place takes.

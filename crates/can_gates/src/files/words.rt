@@ -66,7 +66,7 @@ impl<'a> AllBits<'a> {
 }
 
 /// The name of each literal of these words.
-pub(crate) fn bits_of<'a>(alloc: Global, words: &[Word<'a>]) -> Result<Vec<Bit<'a>>, AllocError>
+fn bits_of<'a>(alloc: Global, words: &[Word<'a>]) -> Result<Vec<Bit<'a>>, AllocError>
     ensures { IfOk result (λ r. r.items ≡ flat_map bits_of_word words.now) }
 {
     let mut bits = Vec::new(alloc);
