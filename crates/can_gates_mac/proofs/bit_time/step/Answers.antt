@@ -23,7 +23,7 @@ returns c = (
         passive.0,
         λ m waiting x is_mac frame held inputs.
             let old = c.args.held.now.counters in
-            let now_off = sym (top_is v zero_is old.tec 8 c.told-held) ∙ rw held.counters.tec (sym is_mac.off) in
+            let now_off = sym (top_is v zero_is old.tec 8 old.widths.0) ∙ rw held.counters.tec (sym is_mac.off) in
             step_either v (is_off_phase m.phase) _ _ _ (off_step m x) (on_step m (move (stance m) m.phase waiting x))
             (rw now_off at made.1)
             (λ h. off.1 m x is_mac held h inputs.seen)
