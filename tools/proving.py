@@ -22,8 +22,8 @@ from dataclasses import dataclass
 
 from repository import TOP, below, copy, needs_of, read_costs
 
-# A machine that does nothing else takes so many of the seconds of tools/costs.txt, where a crate has one job.
-USUAL_SLOWNESS = 0.7
+# Of the seconds of tools/costs.txt, in which a crate has one job, a machine that does nothing else takes so many.
+USUAL_SLOWNESS = 0.5
 # The seconds of a crate that isn't listed there.
 USUAL_COST = 30.0
 # What a proof may take of the memory, in bytes.
