@@ -4,9 +4,9 @@ ghost use Rattle.std.specs.Prelude.{◌<◌, ◌≤◌};
 use crate::commands::{Program, answered};
 use crate::digest::Digest;
 use crate::random::Random;
-use crate::traffic::{MOST_PORTS, push_frame};
+use crate::text::Text;
+use crate::traffic::{MOST_PORTS, push_frame, push_offer};
 use std::alloc::{AllocError, Global};
-use std::fmt::Write;
 
 /// How many bit times a scenario may have.
 const MOST_BITS: u32 = 1_000_000;
@@ -55,36 +55,40 @@ pub fn run_open(
         Plan::new(3, 40_000 * size, 60),
         Plan::new(2, 40_000 * size, 95),
     ] {
-        let text = open_scenario(alloc, random, plan)?;
-        answered(alloc, Program::Canbit, "run", text.as_bytes(), digest)?;
+        run(alloc, open_scenario(alloc, random, plan), digest)?;
     }
     for plan in [
         Plan::new(2, 40_000 * size, 100),
         Plan::new(5, 20_000 * size, 100),
     ] {
-        let mut text = head_of(alloc, plan)?;
-        push_queues(&mut text, random, plan)?;
-        answered(alloc, Program::Canbit, "run", text.as_bytes(), digest)?;
+        let mut text = head_of(alloc, plan);
+        push_queues(&mut text, random, plan);
+        run(alloc, text, digest)?;
     }
     Ok(())
 }
 
+/// Runs a scenario.
+fn run(alloc: Global, scenario: Text, digest: &mut Digest) -> Result<(), AllocError> {
+    let text = scenario.finished()?;
+    answered(alloc, Program::Canbit, "run", text.as_bytes(), digest)?;
+    Ok(())
+}
+
 /// A scenario whose frames are offered at times of their own.
-fn open_scenario(alloc: Global, random: &mut Random, plan: Plan) -> Result<String, AllocError> {
-    let mut text = String::new(alloc);
-    let bits = plan.bits;
-    write!(text, "version = 2\nbits = {bits}\n")?;
+fn open_scenario(alloc: Global, random: &mut Random, plan: Plan) -> Text {
+    let mut text = Text::new(alloc);
+    text.push("version = 2\nbits = ");
+    text.push_number(plan.bits);
+    text.push("\n");
     for node in 0..plan.ports.min(MOST_PORTS) {
-        text.push_str("\n[[port]]\nlog = 2000\nqueue = [\n")?;
+        text.push("\n[[port]]\nlog = 2000\nqueue = [\n");
         for _ in 0..plan.frames() {
-            let time = random.below(bits.max(1));
-            write!(text, "[{time}, \"")?;
-            push_frame(&mut text, random, node)?;
-            text.push_str("\"],\n")?;
+            push_offer(&mut text, random, node, plan.bits);
         }
-        text.push_str("]\n")?;
+        text.push("]\n");
     }
-    Ok(text)
+    text
 }
 
 /// Runs buses on which levels are inverted, for all ports or for one.
@@ -103,90 +107,83 @@ pub fn run_disturbed(
         (Plan::new(3, 40_000 * size, 100), 800),
         (Plan::new(2, 40_000 * size, 60), 2500),
     ] {
-        let mut text = head_of(alloc, plan)?;
-        push_times(&mut text, random, plan, gap)?;
-        push_attempts(&mut text, random, plan, gap)?;
-        push_views(&mut text, random, plan, gap)?;
-        push_queues(&mut text, random, plan)?;
-        answered(alloc, Program::Canbit, "run", text.as_bytes(), digest)?;
+        let mut text = head_of(alloc, plan);
+        push_times(&mut text, random, plan, gap);
+        push_attempts(&mut text, random, plan, gap);
+        push_views(&mut text, random, plan, gap);
+        push_queues(&mut text, random, plan);
+        run(alloc, text, digest)?;
     }
     Ok(())
 }
 
 /// The head of a scenario whose frames all wait as it begins.
-fn head_of(alloc: Global, plan: Plan) -> Result<String, AllocError> {
-    let mut text = String::new(alloc);
-    let bits = plan.bits;
-    write!(text, "version = 1\nbits = {bits}\n")?;
-    Ok(text)
+fn head_of(alloc: Global, plan: Plan) -> Text {
+    let mut text = Text::new(alloc);
+    text.push("version = 1\nbits = ");
+    text.push_number(plan.bits);
+    text.push("\n");
+    text
 }
 
 /// Times at which the wire is inverted, so far apart on the average.
-fn push_times(
-    text: &mut String,
-    random: &mut Random,
-    plan: Plan,
-    gap: u32,
-) -> Result<(), AllocError> {
-    text.push_str("at = [\n")?;
+fn push_times(text: &mut Text, random: &mut Random, plan: Plan, gap: u32) {
+    text.push("at = [\n");
     let mut time = random.below(gap.max(1));
     for _ in 0..plan.bits {
         if time >= plan.bits.min(MOST_BITS) {
             break;
         }
-        write!(text, "{time},\n")?;
+        text.push_number(time);
+        text.push(",\n");
         time += 1 + random.below(gap.clamp(1, MOST_BITS) * 4);
     }
-    text.push_str("]\n")
+    text.push("]\n");
 }
 
 /// Attempts in which the wire is inverted, and where.
-fn push_attempts(
-    text: &mut String,
-    random: &mut Random,
-    plan: Plan,
-    gap: u32,
-) -> Result<(), AllocError> {
-    text.push_str("in = [\n")?;
+fn push_attempts(text: &mut Text, random: &mut Random, plan: Plan, gap: u32) {
+    text.push("in = [\n");
     for attempt in 0..plan.bits / FRAME_TIME {
         if random.is_one_in(1 + gap.min(MOST_BITS) / 64) {
-            let offset = 1 + random.below(100);
-            write!(text, "[{attempt}, {offset}],\n")?;
+            push_pair(text, attempt, 1 + random.below(100));
         }
     }
-    text.push_str("]\n")
+    text.push("]\n");
+}
+
+/// A list of two numbers.
+fn push_pair(text: &mut Text, first: u32, second: u32) {
+    text.push("[");
+    text.push_number(first);
+    text.push(", ");
+    text.push_number(second);
+    text.push("],\n");
 }
 
 /// Times at which one port sees the opposite.
-fn push_views(
-    text: &mut String,
-    random: &mut Random,
-    plan: Plan,
-    gap: u32,
-) -> Result<(), AllocError> {
-    text.push_str("view = [\n")?;
+fn push_views(text: &mut Text, random: &mut Random, plan: Plan, gap: u32) {
+    text.push("view = [\n");
     let mut time = random.below(gap.max(1));
     for _ in 0..plan.bits {
         if time >= plan.bits.min(MOST_BITS) {
             break;
         }
-        let node = random.below(plan.ports.max(1));
-        write!(text, "[{time}, {node}],\n")?;
+        push_pair(text, time, random.below(plan.ports.max(1)));
         time += 1 + random.below(gap.clamp(1, MOST_BITS) * 4);
     }
-    text.push_str("]\n")
+    text.push("]\n");
 }
 
 /// The ports, each with its queue.
-fn push_queues(text: &mut String, random: &mut Random, plan: Plan) -> Result<(), AllocError> {
+fn push_queues(text: &mut Text, random: &mut Random, plan: Plan) {
     for node in 0..plan.ports.min(MOST_PORTS) {
-        text.push_str("\n[[port]]\nlog = 5000\nqueue = [\n")?;
+        text.push("\n[[port]]\nlog = 5000\nqueue = [\n");
         for _ in 0..plan.frames() {
-            text.push_str("\"")?;
-            push_frame(text, random, node)?;
-            text.push_str("\",\n")?;
+            text.push("\"");
+            push_frame(text, random, node);
+            text.push("\",\n");
         }
-        text.push_str("]\n")?;
+        text.push("]\n");
     }
-    Ok(())
 }

@@ -4,9 +4,9 @@ ghost use Rattle.std.specs.Prelude.{◌<◌, ◌≤◌, IfOk};
 use crate::commands::{Program, answered};
 use crate::digest::Digest;
 use crate::random::Random;
+use crate::text::Text;
 use crate::traffic::{frame_of, push_frame, wire_of};
 use std::alloc::{AllocError, Global};
-use std::fmt::Write;
 
 /// How many cases a document may have.
 const MOST_CASES: u32 = 4096;
@@ -38,11 +38,12 @@ fn hold_kit(
     frames: u32,
     digest: &mut Digest,
 ) -> Result<(), AllocError> {
-    let mut text = String::new(alloc);
+    let mut text = Text::new(alloc);
     for case in 0..cases.min(MOST_CASES) {
         push_case(alloc, &mut text, random, case, frames)?;
     }
-    let mut told = answered(alloc, Program::Canhold, "expect", text.as_bytes(), digest)?;
+    let kit = text.finished()?;
+    let mut told = answered(alloc, Program::Canhold, "expect", kit.as_bytes(), digest)?;
     mistake_some(random, &mut told);
     answered(alloc, Program::Canhold, "judge", &told, digest)?;
     Ok(())
@@ -51,12 +52,12 @@ fn hold_kit(
 /// A case in which the tester sends so many frames, some of them wrong, and the controller may have some too.
 fn push_case(
     alloc: Global,
-    text: &mut String,
+    text: &mut Text,
     random: &mut Random,
     case: u32,
     frames: u32,
 ) -> Result<(), AllocError> {
-    let mut tester = String::new(alloc);
+    let mut tester = Text::new(alloc);
     let mut bits: u32 = 0;
     for _ in 0..frames {
         if bits > MOST_BITS - 300 {
@@ -64,30 +65,39 @@ fn push_case(
         }
         bits += push_frame_levels(alloc, &mut tester, random)?;
     }
-    let number = case.wrapping_mul(2654435761) % 1_000_000_007;
-    write!(
-        text,
-        "[[case]]\nversion = 1\nname = \"traffic-{number}-{case}\"\nfamily = \"traffic\"\n"
-    )?;
-    write!(text, "start = \"idle\"\nbits = {bits}\ntester = [\n")?;
-    text.push_str(tester.as_str())?;
-    text.push_str("]\noffers = [\n")?;
+    push_head(text, case, bits);
+    text.push(tester.finished()?.as_str());
+    text.push("]\noffers = [\n");
     let mut time: u32 = random.below(50);
     for _ in 0..frames.min(4) / 2 {
         if time < bits {
-            write!(text, "[{time}, \"")?;
-            push_frame(text, random, 63)?;
-            text.push_str("\"],\n")?;
+            text.push("[");
+            text.push_number(time);
+            text.push(", \"");
+            push_frame(text, random, 63);
+            text.push("\"],\n");
         }
         time = time.saturating_add(random.below(300));
     }
-    text.push_str("]\n")
+    text.push("]\n");
+    Ok(())
+}
+
+/// The head of the case of this number, of so many bit times.
+fn push_head(text: &mut Text, case: u32, bits: u32) {
+    text.push("[[case]]\nversion = 1\nname = \"traffic-");
+    text.push_number(case.wrapping_mul(2654435761) % 1_000_000_007);
+    text.push("-");
+    text.push_number(case);
+    text.push("\"\nfamily = \"traffic\"\nstart = \"idle\"\nbits = ");
+    text.push_number(bits);
+    text.push("\ntester = [\n");
 }
 
 /// Levels of a frame with some idle ones before and behind, in a string: how many they are.
 fn push_frame_levels(
     alloc: Global,
-    tester: &mut String,
+    tester: &mut Text,
     random: &mut Random,
 ) -> Result<u32, AllocError>
     ensures { IfOk result (λ count. count ≤ 300) }
@@ -105,12 +115,14 @@ fn push_frame_levels(
     }
     let before = 12 + random.below(20);
     let behind = 14 + random.below(40);
-    write!(tester, "\"1*{before} ")?;
     let shown = digits.len().min(200);
-    for digit in &digits[..shown] {
-        tester.push(char::from(*digit))?;
-    }
-    write!(tester, " 1*{behind}\",\n")?;
+    tester.push("\"1*");
+    tester.push_number(before);
+    tester.push(" ");
+    tester.push_digits(&digits[..shown]);
+    tester.push(" 1*");
+    tester.push_number(behind);
+    tester.push("\",\n");
     Ok(before + behind + shown as u32)
 }
 
@@ -129,27 +141,27 @@ fn mistake_some(random: &mut Random, told: &mut [u8]) {
 
 /// A session line by line, of so many lines that play.
 fn session(alloc: Global, random: &mut Random, lines: u32) -> Result<String, AllocError> {
-    let mut text = String::new(alloc);
+    let mut text = Text::new(alloc);
     for line in 0..lines {
         if line % 16 == 0 {
-            write!(text, "end\ncase session-{line} idle\n")?;
+            text.push("end\ncase session-");
+            text.push_number(line);
+            text.push(" idle\n");
         }
         if random.is_one_in(3) {
-            text.push_str("offer ")?;
-            push_frame(&mut text, random, 63)?;
-            text.push_str("\n")?;
+            text.push("offer ");
+            push_frame(&mut text, random, 63);
+            text.push("\n");
         }
-        text.push_str("play ")?;
         push_played(alloc, &mut text, random)?;
-        text.push_str("\n")?;
     }
-    text.push_str("quit\n")?;
-    Ok(text)
+    text.push("quit\n");
+    text.finished()
 }
 
-/// Levels that the tester plays: a frame, or none.
-fn push_played(alloc: Global, text: &mut String, random: &mut Random) -> Result<(), AllocError> {
-    text.push_str("111111111111")?;
+/// A line of levels that the tester plays: a frame, or none.
+fn push_played(alloc: Global, text: &mut Text, random: &mut Random) -> Result<(), AllocError> {
+    text.push("play 111111111111");
     let node = random.below(60);
     if let Some(frame) = frame_of(random, node) {
         let mut digits = wire_of(alloc, &frame)?;
@@ -159,9 +171,8 @@ fn push_played(alloc: Global, text: &mut String, random: &mut Random) -> Result<
                 digits[place] ^= 1;
             }
         }
-        for digit in &digits {
-            text.push(char::from(*digit))?;
-        }
+        text.push_digits(&digits);
     }
-    text.push_str("1111111111111111111111111111111111111111")
+    text.push("1111111111111111111111111111111111111111\n");
+    Ok(())
 }

@@ -20,6 +20,7 @@
 //! |---|---|
 //! | `random.rt` | [`Random`](random::Random), numbers that look random |
 //! | `digest.rt` | [`Digest`](digest::Digest), a number that tells answers apart |
+//! | `text.rt` | [`Text`](text::Text), a text that is written piece by piece |
 //! | `traffic.rt` | frames, and their wires |
 //! | `commands.rt` | a call of a program on a text |
 //! | `buses.rt`, `ports.rt`, `networks.rt`, `traces.rt`, `kits.rt` | the jobs |
@@ -34,6 +35,7 @@ mod kits;
 mod networks;
 mod ports;
 mod random;
+mod text;
 mod traces;
 mod traffic;
 

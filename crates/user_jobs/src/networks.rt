@@ -4,8 +4,8 @@ ghost use Rattle.std.specs.Prelude.{◌<◌, ◌≤◌};
 use crate::commands::{Program, answered};
 use crate::digest::Digest;
 use crate::random::Random;
+use crate::text::Text;
 use std::alloc::{AllocError, Global};
-use std::fmt::Write;
 
 /// How many messages a network may have.
 const MOST_MESSAGES: u32 = 512;
@@ -54,10 +54,12 @@ pub fn plan_networks(
 
 /// The document of a network.
 fn document(alloc: Global, random: &mut Random, plan: Plan) -> Result<String, AllocError> {
-    let mut text = String::from_str(alloc, "version = 1\n")?;
-    let spacing = plan.spacing;
-    if spacing > 0 {
-        write!(text, "\n[errors]\nburst = 1\nspacing = {spacing}\n")?;
+    let mut text = Text::new(alloc);
+    text.push("version = 1\n");
+    if plan.spacing > 0 {
+        text.push("\n[errors]\nburst = 1\nspacing = ");
+        text.push_number(plan.spacing);
+        text.push("\n");
     }
     let mut shares = Vec::new(alloc);
     let mut whole: u64 = 0;
@@ -67,20 +69,20 @@ fn document(alloc: Global, random: &mut Random, plan: Plan) -> Result<String, Al
         shares.push(share)?;
     }
     for (place, share) in shares.iter().enumerate() {
-        push_message(&mut text, random, place, *share, whole, plan.load)?;
+        push_message(&mut text, random, place, *share, whole, plan.load);
     }
-    Ok(text)
+    text.finished()
 }
 
 /// A message that has its share of the load.
 fn push_message(
-    text: &mut String,
+    text: &mut Text,
     random: &mut Random,
     place: usize,
     share: u32,
     whole: u64,
     load: u32,
-) -> Result<(), AllocError> {
+) {
     let dlc = random.below(9);
     let extended = random.is_one_in(2);
     let longest = if extended { 80 } else { 55 } + 10 * dlc;
@@ -93,15 +95,18 @@ fn push_message(
     } else {
         0
     };
-    let number = place.min(2047);
+    text.push("\n[[message]]\nframe = \"");
+    let number = place.min(2047) as u32;
     if extended {
-        write!(
-            text,
-            "\n[[message]]\nframe = \"E {:08x} D\"\n",
-            number << 18
-        )?;
+        text.push_extended(number << 18);
     } else {
-        write!(text, "\n[[message]]\nframe = \"S {number:03x} D\"\n")?;
+        text.push_standard(number);
     }
-    write!(text, "dlc = {dlc}\nperiod = {period}\njitter = {jitter}\n")
+    text.push(" D\"\ndlc = ");
+    text.push_number(dlc);
+    text.push("\nperiod = ");
+    text.push_number(period);
+    text.push("\njitter = ");
+    text.push_number(jitter);
+    text.push("\n");
 }

@@ -3,7 +3,8 @@ ghost use Rattle.std.specs.Prelude.{◌<◌, ◌≤◌, ◌≡◌, length};
 
 use crate::digest::Digest;
 use crate::random::Random;
-use crate::traffic::{frame_of, push_frame};
+use crate::text::Text;
+use crate::traffic::{frame_of, push_offer};
 use can_fault::State;
 use can_frame::Level;
 use can_mac::{ErrorKind, Event};
@@ -11,7 +12,6 @@ use can_node::{PackedNode, Port};
 use can_port_times::{Brought, PortTime, told_times};
 use can_scenario_text::Scenario;
 use std::alloc::{AllocError, Global};
-use std::fmt::Write;
 
 /// How many frames may wait at a port, and how many its log holds.
 const ROOM: usize = 64;
@@ -143,7 +143,7 @@ fn ask_times(
     bits: u32,
     digest: &mut Digest,
 ) -> Result<(), AllocError> {
-    let text = scenario_text(alloc, random, ports.clamp(1, 64), bits)?;
+    let text = scenario(alloc, random, ports.clamp(1, 64), bits).finished()?;
     let Ok(scenario) = Scenario::from_text(alloc, text.as_bytes()) else {
         digest.put(1);
         return Ok(());
@@ -157,27 +157,21 @@ fn ask_times(
 }
 
 /// A scenario of a busy bus.
-fn scenario_text(
-    alloc: Global,
-    random: &mut Random,
-    ports: u32,
-    bits: u32,
-) -> Result<String, AllocError>
+fn scenario(alloc: Global, random: &mut Random, ports: u32, bits: u32) -> Text
     requires { ports ≤ 64 }
 {
-    let mut text = String::new(alloc);
-    write!(text, "version = 2\nbits = {bits}\n")?;
+    let mut text = Text::new(alloc);
+    text.push("version = 2\nbits = ");
+    text.push_number(bits);
+    text.push("\n");
     for node in 0..ports {
-        text.push_str("\n[[port]]\nqueue = [\n")?;
+        text.push("\n[[port]]\nqueue = [\n");
         for _ in 0..bits / 2200 {
-            let time = random.below(bits.max(1));
-            write!(text, "[{time}, \"")?;
-            push_frame(&mut text, random, node)?;
-            text.push_str("\"],\n")?;
+            push_offer(&mut text, random, node, bits);
         }
-        text.push_str("]\n")?;
+        text.push("]\n");
     }
-    Ok(text)
+    text
 }
 
 /// What a port does in a bit time.

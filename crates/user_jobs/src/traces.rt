@@ -16,6 +16,21 @@ const LINE: usize = 64;
 /// Pieces of which a text is put together.
 type Pool = Vec<Vec<u8>>;
 
+/// What a trace is like.
+#[derive(Clone, Copy)]
+enum Form {
+    /// Frames, one behind another.
+    Busy,
+    /// The same, with line ends.
+    Lines,
+    /// The same, with levels that are wrong.
+    Wrong,
+    /// The same, with blanks between levels.
+    Apart,
+    /// Frames with much time between them.
+    Idle,
+}
+
 /// Decodes traces, encodes lines of frames, and checks vectors.
 pub fn read(
     alloc: Global,
@@ -25,27 +40,93 @@ pub fn read(
 ) -> Result<(), AllocError>
     requires { size ≤ 1000 }
 {
-    let frames = frames_pool(alloc, random)?;
     let levels = 400_000 * size as usize;
-    let busy = text_of(alloc, random, &frames, levels)?;
-    answered(alloc, Program::Canbit, "decode", &busy, digest)?;
-    let lines = with_ends(alloc, &text_of(alloc, random, &frames, levels)?)?;
-    answered(alloc, Program::Canbit, "decode", &lines, digest)?;
-    let mut wrong = text_of(alloc, random, &frames, levels)?;
-    invert_some(random, &mut wrong, 200);
-    answered(alloc, Program::Canbit, "decode", &wrong, digest)?;
-    let apart = with_blanks(alloc, &text_of(alloc, random, &frames, levels / 16)?)?;
-    answered(alloc, Program::Canbit, "decode", &apart, digest)?;
-    let idle = idle_text(alloc, random, &frames, levels)?;
-    answered(alloc, Program::Canbit, "decode", &idle, digest)?;
+    decode_traces(alloc, random, levels, digest)?;
     let noise = noise(alloc, random, levels / 8)?;
-    answered(alloc, Program::Canbit, "decode", &noise, digest)?;
+    answer(alloc, "decode", &noise, digest)?;
     let texts = texts_pool(alloc, random)?;
-    let lines = text_of(alloc, random, &texts, 12 * 8_000 * size as usize)?;
-    answered(alloc, Program::Canbit, "encode", &lines, digest)?;
+    answer_lines(
+        alloc,
+        random,
+        "encode",
+        &texts,
+        12 * 8_000 * size as usize,
+        digest,
+    )?;
     let vectors = vectors_pool(alloc, random)?;
-    let lines = text_of(alloc, random, &vectors, 120 * 6_000 * size as usize)?;
-    answered(alloc, Program::Canbit, "check", &lines, digest)?;
+    answer_lines(
+        alloc,
+        random,
+        "check",
+        &vectors,
+        120 * 6_000 * size as usize,
+        digest,
+    )
+}
+
+/// Decodes traces of so many levels.
+fn decode_traces(
+    alloc: Global,
+    random: &mut Random,
+    levels: usize,
+    digest: &mut Digest,
+) -> Result<(), AllocError> {
+    let frames = frames_pool(alloc, random)?;
+    for form in [
+        Form::Busy,
+        Form::Lines,
+        Form::Wrong,
+        Form::Apart,
+        Form::Idle,
+    ] {
+        let trace = trace_of(alloc, random, form, &frames, levels)?;
+        answer(alloc, "decode", &trace, digest)?;
+    }
+    Ok(())
+}
+
+/// A trace of this form, of so many levels.
+fn trace_of(
+    alloc: Global,
+    random: &mut Random,
+    form: Form,
+    frames: &[Vec<u8>],
+    levels: usize,
+) -> Result<Vec<u8>, AllocError> {
+    match form {
+        Form::Busy => text_of(alloc, random, frames, levels),
+        Form::Lines => with_ends(alloc, &text_of(alloc, random, frames, levels)?),
+        Form::Wrong => {
+            let mut wrong = text_of(alloc, random, frames, levels)?;
+            invert_some(random, &mut wrong, 200);
+            Ok(wrong)
+        }
+        Form::Apart => with_blanks(alloc, &text_of(alloc, random, frames, levels / 16)?),
+        Form::Idle => idle_text(alloc, random, frames, levels),
+    }
+}
+
+/// What canbit does with lines, at least so many bytes of them.
+fn answer_lines(
+    alloc: Global,
+    random: &mut Random,
+    subcommand: &str,
+    pool: &[Vec<u8>],
+    least: usize,
+    digest: &mut Digest,
+) -> Result<(), AllocError> {
+    let lines = text_of(alloc, random, pool, least)?;
+    answer(alloc, subcommand, &lines, digest)
+}
+
+/// What canbit does with a text.
+fn answer(
+    alloc: Global,
+    subcommand: &str,
+    text: &[u8],
+    digest: &mut Digest,
+) -> Result<(), AllocError> {
+    answered(alloc, Program::Canbit, subcommand, text, digest)?;
     Ok(())
 }
 

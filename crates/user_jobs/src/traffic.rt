@@ -2,6 +2,7 @@
 ghost use Rattle.std.specs.Prelude.{◌<◌, ◌≤◌, ◌^◌, length, IfOk};
 
 use crate::random::Random;
+use crate::text::Text;
 use can_frame::{Frame, Id};
 use can_wire::encode;
 use std::alloc::{AllocError, Global};
@@ -34,14 +35,24 @@ pub fn frame_with(random: &mut Random, id: Id) -> Option<Frame> {
     Frame::data(id, count as u8, &bytes[..count]).ok()
 }
 
-/// The text of a frame that only the port of this number sends.
-pub fn push_frame(text: &mut String, random: &mut Random, node: u32) -> Result<(), AllocError>
+/// Appends the text of a frame that only the port of this number sends.
+pub fn push_frame(text: &mut Text, random: &mut Random, node: u32)
     requires { node < 64 }
 {
-    match frame_of(random, node) {
-        Some(frame) => text.push_str(frame.to_text().as_str()),
-        None => Ok(()),
+    if let Some(frame) = frame_of(random, node) {
+        text.push(frame.to_text().as_str());
     }
+}
+
+/// Appends a frame that only the port of this number sends, and that it is offered at some time of so many.
+pub fn push_offer(text: &mut Text, random: &mut Random, node: u32, bits: u32)
+    requires { node < 64 }
+{
+    text.push("[");
+    text.push_number(random.below(bits.max(1)));
+    text.push(", \"");
+    push_frame(text, random, node);
+    text.push("\"],\n");
 }
 
 /// The digits of a frame's wire, where some port acknowledges.
