@@ -3,8 +3,8 @@
 use std::alloc::{AllocError, Global};
 use std::fmt::Write;
 
-/// A text. A piece for which there is no memory isn't written, and the text isn't complete from then on: so a piece is
-/// written by a call that can't fail, and [`Text::finished`] is asked once, behind the last.
+/// A text. A piece for which there is no memory isn't written whole, and the text isn't complete from then on: so a
+/// piece is written by a call that can't fail, and [`Text::finished`] is asked once, behind the last.
 #[derive(Drop)]
 pub struct Text {
     /// What is written so far.

@@ -85,7 +85,7 @@ fn decode_traces(
     Ok(())
 }
 
-/// A trace of this form, of so many levels.
+/// A trace of this form, of at least so many levels, or a sixteenth of them where blanks stand between them.
 fn trace_of(
     alloc: Global,
     random: &mut Random,
