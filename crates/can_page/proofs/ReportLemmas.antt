@@ -1,7 +1,7 @@
 -- What a writer holds that held nothing before a report.
 use Rattle.std.proofs.Common.{◌≡◌, ℕ, Option, Some, None, IfSome, List, [], subst}
 use Rattle.std.specs.Io.KnownBytes.{Appends}
-use Rattle.can_scenario.specs.Report.{report}
+use Rattle.can_trace.specs.Report.{report}
 use Rattle.can_scenario_text.specs.Scenarios.{IsScenarioText}
 use Rattle.can_scenario_text.specs.declared.scenario.Scenario.{Scenario}
 

@@ -1,7 +1,7 @@
 //! What the page in page/, and the library for C, ask of the proved code: bytes and numbers in, bytes and numbers out. Only
 //! those that run a scenario or answer a network take memory of their own.
 //!
-//! Each export does what one call of can_frame, can_code, can_fields, can_texts, can_scenario, can_port_times,
+//! Each export does what one call of can_frame, can_code, can_fields, can_texts, can_trace, can_port_times,
 //! can_plan_text does, and promises it in the same definitions. It answers an [`Answer`] as a number.
 //!
 //! | File | What it has | Defined in |

@@ -4,7 +4,7 @@ ghost use Rattle.can_page.specs.Plain.{brought_code as brought_code_of, plain_ti
 
 use can_plan_text::{MessageField, PlanField};
 use can_port_times::{Brought, PortTime, Stage};
-use can_scenario::{Field, HitList, PortField};
+use can_trace::{Field, HitList, PortField};
 
 /// What a port does in a bit time.
 #[repr(C)]

@@ -1,6 +1,6 @@
 ghost use Rattle.std.specs.Prelude.{◌≡◌, ◌<◌, ◌≤◌, ◌⊎◌, [], false, true, length, take, IfErr, IfOk, IfSome, IsErrOf, List, Some};
 ghost use Rattle.can_port_times.specs.PortTimes.{AreAllTold, AreTold};
-ghost use Rattle.can_scenario.specs.Report.{report};
+ghost use Rattle.can_trace.specs.Report.{report};
 ghost use Rattle.can_scenario_text.specs.Scenarios.{IsWrongScenarioField, IsScenarioText};
 ghost use Rattle.can_port_times.specs.declared.port_times.PortTime.{PortTime as Told};
 ghost use Rattle.can_scenario_text.specs.declared.scenario.Scenario.{Scenario as Planned};
@@ -13,8 +13,8 @@ use crate::answer::Answer;
 use crate::lines::Lines;
 use crate::plain::{PlainTime, WrongField};
 use can_port_times::{PortTime, all_told_times, told_times};
-use can_scenario::{Scenario, run_scenario};
 use can_stream::{Sink, TraceFault};
+use can_trace::{Scenario, run_scenario};
 use std::alloc::Global;
 
 /// Runs the scenario that a document says, and writes its report to `out`. Where the document says none, the first

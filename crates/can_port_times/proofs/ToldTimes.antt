@@ -19,12 +19,12 @@ use Rattle.can_bus.specs.Offers.{AreOffered, all_made, call_after, made, played,
 use Rattle.can_bus.proofs.CallCases.{played-level, played-next}
 use Rattle.can_bus.specs.Run.{BusState, all_sampled, bus_after, bus_level, bus_run, bus_step, call_begun, hits_view, inverted_if, recorded}
 use Rattle.can_port_times.specs.PortTimes.{AreFirstTold, AreSeen, AreTold, bus_by, first_port, level_seen, offers_meanwhile, own_made, seen_under, port_time, told_from}
-use Rattle.can_scenario.specs.Report.{level_by, levels_until, made_bus, made_port, recorded_levels, waiting_bus, waiting_port}
-use Rattle.can_scenario.specs.ScenarioOffers.{scenario_offers}
+use Rattle.can_trace.specs.Report.{level_by, levels_until, made_bus, made_port, recorded_levels, waiting_bus, waiting_port}
+use Rattle.can_trace.specs.ScenarioOffers.{scenario_offers}
 use Rattle.can_scenario_text.specs.declared.scenario.PortPlan.{PortPlan}
 use Rattle.can_scenario_text.specs.declared.scenario.Scenario.{Scenario}
 use Rattle.can_port_times.specs.declared.port_times.PortTime.{PortTime}
-use Rattle.can_scenario.proofs.OpenReports.{offered}
+use Rattle.can_trace.proofs.OpenReports.{offered}
 
 -- ---- one port of all
 

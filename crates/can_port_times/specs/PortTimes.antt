@@ -11,8 +11,8 @@ use Rattle.can_hit.specs.declared.hit.Hit.{Hit}
 use Rattle.can_bus.specs.declared.offer.Offer.{Offer}
 use Rattle.can_bus.specs.Offers.{all_made, played}
 use Rattle.can_bus.specs.Run.{BusState, bus_run, hits_view, inverted_if}
-use Rattle.can_scenario.specs.Report.{level_by, made_bus, made_port, waiting_bus, waiting_port}
-use Rattle.can_scenario.specs.ScenarioOffers.{scenario_offers}
+use Rattle.can_trace.specs.Report.{level_by, made_bus, made_port, waiting_bus, waiting_port}
+use Rattle.can_trace.specs.ScenarioOffers.{scenario_offers}
 use Rattle.can_port_times.specs.declared.port_times.Brought.{Brought}
 use Rattle.can_port_times.specs.declared.port_times.Brought.TheVariants as bring
 use Rattle.can_port_times.specs.declared.port_times.PortTime.{PortTime}

@@ -5,7 +5,7 @@ ghost use Rattle.can_bus.specs.Run.{hits_view};
 ghost use Rattle.can_bus.specs.Walks.{IsReached};
 ghost use Rattle.can_frame.specs.Levels.{opposite};
 ghost use Rattle.can_node.specs.Ports.{port_step};
-ghost use Rattle.can_scenario.specs.Report.{recorded_levels};
+ghost use Rattle.can_trace.specs.Report.{recorded_levels};
 ghost use Rattle.can_port_times.specs.declared.port_times.PortTime.{PortTime as Told};
 ghost use Rattle.can_mac.specs.State.{is_sender as is_sender_of};
 ghost use Rattle.can_port_times.specs.PortTimes.{AreAllTold, AreSeen, AreTold, brought, first_port, offers_meanwhile, own_made, stage_of, port_time, told_from};
@@ -15,7 +15,7 @@ use can_code::{FrameBits, Front};
 use can_frame::Level;
 use can_mac::{ErrorKind, Event, Phase, Role};
 use can_node::{PackedNode, Port};
-use can_scenario::{PortPlan, Scenario, made_port, offer_all, offers_in_time, run_to_end};
+use can_trace::{PortPlan, Scenario, made_port, offer_all, offers_in_time, run_to_end};
 use std::alloc::{AllocError, Global};
 
 /// Where a controller is in the traffic on the bus: its phase, by its name.

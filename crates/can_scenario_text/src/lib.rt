@@ -1,6 +1,6 @@
 //! Scenarios as they are read: a bus with its ports, the frames that are offered to them and disturbances, from a document.
 //!
-//! [`Scenario::from_text`] reads one; can_scenario runs it.
+//! [`Scenario::from_text`] reads one; can_trace runs it.
 //!
 //! | File | What it has | Defined in |
 //! |---|---|---|

@@ -1,4 +1,9 @@
--- To believe: the words of the crates below that this one names, by the page of docs/ that each of them gives
+-- To believe: the words of what public calls and laws promise, and of the crates below that this one names, by the page
+-- of docs/ that each of them gives
+pub mod ScenarioOffers
+pub mod Report
+pub mod QuietReport
+pub mod OpenReport
 pub use Rattle.can_stream.specs.Told
 pub use Rattle.can_stream.specs.Wrapped
 pub use Rattle.can_stream.specs.Outbox
@@ -8,7 +13,3 @@ pub use Rattle.can_texts.specs.Checked
 pub use Rattle.can_texts.specs.TraceText
 pub use Rattle.can_texts.specs.Decoded
 pub use Rattle.can_scenario_text.specs.Scenarios
-pub use Rattle.can_scenario.specs.Report
-pub use Rattle.can_scenario.specs.ScenarioOffers
-pub use Rattle.can_scenario.specs.OpenReport
-pub use Rattle.can_scenario.specs.QuietReport

@@ -4,7 +4,7 @@ use Rattle.std.proofs.Common.{◌≡◌, ◌⊎◌, inl, inr, refl, ap, subst, s
 use Rattle.std.specs.Prelude.{◌↔◌, IfErr}
 use Rattle.std.specs.Io.KnownBytes.{Appends, Consumes, IsAtEnd}
 use Rattle.can_stream.specs.Outbox.{TakesFront}
-use Rattle.can_scenario.specs.Report.{report}
+use Rattle.can_trace.specs.Report.{report}
 use Rattle.can_scenario_text.specs.Scenarios.{IsFieldOrMemory, IsWrongScenarioField, IsScenarioText}
 use Rattle.can_scenario_text.specs.declared.scenario.Scenario.{Scenario}
 use Rattle.can_stream.specs.Told.{Told}

@@ -3,7 +3,7 @@ use Rattle.std.specs.Prelude.{◌≡◌, ◌≢◌, ◌⊎◌, ℕ, Bool, IsTrue
 use Rattle.can_texts.specs.Checked.{BeginsChecking, ChecksAll, ChecksEnded, ChecksTooLong, IsFirstBadByte, IsFirstBadVectorLine}
 use Rattle.can_texts.specs.Coded.{BeginsEncoding, EncodesAll, EncodesEnded, EncodesTooLong, IsFirstBadLine}
 use Rattle.can_texts.specs.Decoded.{BeginsDecoding, DecodesAll, DecodesSoFar, DecodesToBadByte, DecodesTooLong}
-use Rattle.can_scenario.specs.Report.{report}
+use Rattle.can_trace.specs.Report.{report}
 use Rattle.can_scenario_text.specs.Scenarios.{IsWrongScenarioField, IsScenarioText}
 use Rattle.can_scenario_text.specs.declared.scenario.Scenario.{Scenario}
 use Rattle.can_program.specs.Written.{WritesBeginning, WritesNothing}

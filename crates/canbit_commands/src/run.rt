@@ -2,8 +2,8 @@
 ghost use Rattle.std.specs.Prelude.{◌≡◌, false};
 ghost use Rattle.canbit_commands.specs.Ends.{RunEnds};
 
-use can_scenario::{Scenario, run_scenario};
 use can_stream::{Sink, Source, TraceFault, read_whole};
+use can_trace::{Scenario, run_scenario};
 use std::alloc::Global;
 
 /// Reads a scenario up to the reader's end, runs it, and writes its report. Nothing is written where

@@ -1,5 +1,0 @@
-use Rattle.can_scenario.proofs.FirstOffers.{first-report}
-use Rattle.can_scenario.proofs.laws.frames_of_time_0_wait.Goals as goal
-
-pub returns : goal.returns
-returns c = first-report

@@ -1,5 +1,0 @@
-use Rattle.can_scenario.proofs.RoomForAll.{none-refused}
-use Rattle.can_scenario.proofs.laws.no_offer_finds_a_full_queue.Goals as goal
-
-pub returns : goal.returns
-returns c = none-refused

@@ -1,0 +1,186 @@
+//! A scenario that is run.
+ghost use Rattle.std.specs.Prelude.{◌≡◌, ◌≢◌, ◌+◌, ◌≤◌, ◌⊎◌, ◌↔◌, false, [], length, map, vec_len, IsTrue, IsErrOf, IfErr, IfOk, OnOk};
+ghost use Rattle.std.specs.Io.KnownBytes.{Appends};
+ghost use Rattle.can_bus.specs.OpenBus.{AreOver};
+ghost use Rattle.can_bus.specs.Quiet.{span};
+ghost use Rattle.can_trace.specs.OpenReport.{IsOpenScenario, all_frames, open_report, queues, scenario_starts};
+ghost use Rattle.can_stream.specs.Outbox.{TakesFront};
+ghost use Rattle.can_trace.specs.QuietReport.{IsQuietScenario, quiet_report};
+ghost use Rattle.can_node.specs.Ports.{all_offered};
+ghost use Rattle.can_trace.specs.Report.{ended_bus, made_port as made_port_of, recorded_levels, report, waiting_port};
+
+use crate::offers::offers_in_time;
+use crate::report::write_report;
+use can_bus::Bus;
+use can_frame::Level;
+use can_node::{PackedNode, Port};
+use can_scenario_text::{PortPlan, Scenario, TimedFrame};
+use can_stream::{Sink, TraceFault};
+use std::alloc::{AllocError, Global};
+
+/// Runs the scenario and writes its report.
+///
+/// The ports are made, given their wish for overload frames, and run on one bus. Without disturbances each
+/// frame is offered to its port before the bit time that the scenario says: those of one bit time in the
+/// order of the ports, and those of one port in the order of its queue. A frame behind the last bit time is
+/// not offered. With disturbances, where all frames have time 0, they are offered before the run.
+///
+/// The report is the line `bits` with how many bit times there were;
+/// the recorded levels as digits, in one line; and for each port a line `port` with its number, its state
+/// `active`, `passive` or `off`, `tec` and `rec` with its error counters and `missed` with how many entries its
+/// log had no room for, and behind it a line for each entry of its log: two blanks, `sent` or `took`, and the
+/// frame's text. Each line is ended by 0x0a. The writer must not have failed before the call.
+///
+/// All memory is taken before the first byte is written: after `Memory` nothing has been. After `Write` a
+/// beginning of the report has been written, and the writer is not tried again. There is no other fault.
+///
+/// Of an open scenario that runs until its last frame is over, the report is told by its frames, when each is
+/// offered and to which port, and the number of bit times: each frame starts when the schedule says, and each
+/// port has them all in its log, in this order. Of a quiet one, whose frames all have time 0, that is the order
+/// of arbitration.
+pub fn run_scenario<W: Sink>(
+    alloc: Global,
+    scenario: &Scenario,
+    w: &mut W,
+) -> Result<(), TraceFault>
+    requires writer_unfailed { W.has_failed w.old ≡ false }
+    ensures ok { OnOk result (Appends (W.contents w.old) (W.contents w.new) (report scenario.now)) }
+    ensures write { IsErrOf result TraceFault.Write → TakesFront (W.contents w.old) (W.contents w.new) (report scenario.now) }
+    ensures memory { IsErrOf result TraceFault.Memory → w.new ≡ w.old }
+    ensures other { IfErr result (λ fault. (fault ≡ TraceFault.Write) ⊎ (fault ≡ TraceFault.Memory)) }
+    ensures write_failed { IsErrOf result TraceFault.Write ↔ IsTrue (W.has_failed w.new) }
+    ensures scheduled { OnOk result (IsOpenScenario scenario.now → AreOver (scenario_starts scenario.now) scenario.now.bits →
+        Appends (W.contents w.old) (W.contents w.new) (open_report scenario.now.bits (scenario_starts scenario.now) (queues scenario.now))) }
+    ensures quiet { OnOk result (IsQuietScenario scenario.now → span (all_frames (queues scenario.now)) ≤ scenario.now.bits →
+        Appends (W.contents w.old) (W.contents w.new) (quiet_report scenario.now.bits (queues scenario.now))) }
+{
+    let Ok(ended) = run_to_end(alloc, scenario) else {
+        return Err(TraceFault::Memory);
+    };
+    write_report(&ended.levels, &ended.ports, w)
+}
+
+/// A scenario that has run.
+#[derive(Drop)]
+pub struct Ended {
+    /// The levels that were recorded.
+    pub levels: Vec<Level>,
+    /// The ports as they ended.
+    pub ports: Vec<PackedNode>,
+}
+
+/// Runs the scenario. It fails only where an allocation does.
+pub fn run_to_end(alloc: Global, scenario: &Scenario) -> Result<Ended, AllocError>
+    ensures levels { IfOk result (λ ended. ended.levels.items ≡ recorded_levels scenario.now) }
+    ensures ports { IfOk result (λ ended. map ⟦<PackedNode as Port>⟧.port ended.ports.items ≡ (ended_bus scenario.now).ports) }
+    ensures scheduled { OnOk result (IsOpenScenario scenario.now → AreOver (scenario_starts scenario.now) scenario.now.bits →
+        report scenario.now ≡ open_report scenario.now.bits (scenario_starts scenario.now) (queues scenario.now)) }
+    ensures quiet { OnOk result (IsQuietScenario scenario.now → span (all_frames (queues scenario.now)) ≤ scenario.now.bits →
+        report scenario.now ≡ quiet_report scenario.now.bits (queues scenario.now)) }
+{
+    if scenario.hits.is_empty() {
+        play(alloc, scenario)
+    } else {
+        disturb(alloc, scenario)
+    }
+}
+
+/// Runs a scenario without disturbances.
+fn play(alloc: Global, scenario: &Scenario) -> Result<Ended, AllocError>
+    requires { scenario.now.hits.items ≡ [] }
+    ensures levels { IfOk result (λ ended. ended.levels.items ≡ recorded_levels scenario.now) }
+    ensures ports { IfOk result (λ ended. map ⟦<PackedNode as Port>⟧.port ended.ports.items ≡ (ended_bus scenario.now).ports) }
+    ensures scheduled { OnOk result (IsOpenScenario scenario.now → AreOver (scenario_starts scenario.now) scenario.now.bits →
+        report scenario.now ≡ open_report scenario.now.bits (scenario_starts scenario.now) (queues scenario.now)) }
+{
+    let ports = made_ports(alloc, &scenario.ports)?;
+    let offers = offers_in_time(alloc, &scenario.ports)?;
+    let mut levels = unrecorded(alloc, scenario.bits)?;
+    let Ok(mut bus) = Bus::new(ports) else {
+        unreachable!();
+    };
+    // a queue has room for all that its port is offered
+    let Ok(_refused) = bus.play(&offers, &mut levels) else {
+        unreachable!();
+    };
+    Ok(Ended {
+        levels,
+        ports: bus.into_ports(),
+    })
+}
+
+/// Runs a scenario with disturbances, all frames of which wait as the run begins.
+fn disturb(alloc: Global, scenario: &Scenario) -> Result<Ended, AllocError>
+    requires { scenario.now.hits.items ≢ [] }
+    ensures levels { IfOk result (λ ended. ended.levels.items ≡ recorded_levels scenario.now) }
+    ensures ports { IfOk result (λ ended. map ⟦<PackedNode as Port>⟧.port ended.ports.items ≡ (ended_bus scenario.now).ports) }
+{
+    let mut ports = made_ports(alloc, &scenario.ports)?;
+    let mut levels = unrecorded(alloc, scenario.bits)?;
+    offer_waiting(&mut ports, &scenario.ports);
+    let Ok(mut bus) = Bus::new(ports) else {
+        unreachable!();
+    };
+    let hits = scenario.hits.as_slice();
+    let Ok(()) = bus.run(hits, &mut levels) else {
+        unreachable!();
+    };
+    Ok(Ended {
+        levels,
+        ports: bus.into_ports(),
+    })
+}
+
+/// A level for each of so many bit times.
+fn unrecorded(alloc: Global, bits: u32) -> Result<Vec<Level>, AllocError>
+    ensures { IfOk result (λ levels. vec_len levels ≡ bits) }
+{
+    Vec::from_elem(alloc, Level::Recessive, bits as usize)
+}
+
+/// The ports as they are made.
+fn made_ports(alloc: Global, plans: &[PortPlan]) -> Result<Vec<PackedNode>, AllocError>
+    ensures { IfOk result (λ ports. map ⟦<PackedNode as Port>⟧.port ports.items ≡ map made_port_of plans.now) }
+{
+    let mut ports = Vec::with_capacity(alloc, plans.len())?;
+    for plan in plans {
+        ports.push(made_port(alloc, plan)?)?;
+    }
+    Ok(ports)
+}
+
+/// A port as it is made.
+pub fn made_port(alloc: Global, plan: &PortPlan) -> Result<PackedNode, AllocError>
+    ensures { IfOk result (λ node. ⟦<PackedNode as Port>⟧.port node ≡ made_port_of plan.now) }
+{
+    let queue_room = plan.queue.len();
+    let mut node = if plan.joins {
+        PackedNode::joining(alloc, queue_room, plan.log_room)?
+    } else {
+        PackedNode::new(alloc, queue_room, plan.log_room)?
+    };
+    node.hold(plan.overloads);
+    Ok(node)
+}
+
+/// Offers each port all its frames.
+fn offer_waiting(ports: &mut [PackedNode], plans: &[PortPlan])
+    requires { map ⟦<PackedNode as Port>⟧.port ports.old ≡ map made_port_of plans.now }
+    ensures { map ⟦<PackedNode as Port>⟧.port ports.new ≡ map waiting_port plans.now }
+{
+    for (number, port) in ports.iter_mut().enumerate() {
+        offer_all(port, &plans[number].queue);
+    }
+}
+
+/// Offers the frames in their order to a port that has room for them.
+pub fn offer_all<P: Port>(port: &mut P, queue: &[TimedFrame])
+    requires { length (P.port port.old).queue + length queue.now ≤ (P.port port.old).queue_room }
+    ensures { P.port port.new ≡ all_offered (map (λ timed. timed.frame) queue.now) (P.port port.old) }
+{
+    for timed in queue {
+        let Ok(()) = port.offer(timed.frame) else {
+            unreachable!();
+        };
+    }
+}
