@@ -1,19 +1,19 @@
 -- What one attempt makes of the counters of a port: the tally, as long as the port is error active.
 use Rattle.std.specs.Prelude.{nat_lt, if◌then◌else◌}
-use Rattle.std.proofs.Common.{◌≡◌, ℕ, suc, ◌+◌, ◌<◌, Bool, true, false, Some, refl, sym, ap, subst, ◌∙◌, arith, inl, inr}
+use Rattle.std.proofs.Common.{◌≡◌, ℕ, suc, ◌+◌, ◌-◌, ◌<◌, min, Bool, true, false, Some, refl, sym, ap, subst, ◌∙◌, arith, inl, inr}
 use Rattle.std.proofs.Math.Dec.{ltb, leb}
 use Rattle.std.proofs.lemmas.Bool.{cond-true, cond-false, cond_both, cases_lt, lt-ltb, le-ltb, leb-true, false_from_ne_true}
 use Rattle.can_frame.specs.Parts.{Parts}
 use Rattle.can_fault.specs.declared.cause.Cause.{Cause}
-use Rattle.can_fault.specs.declared.cause.Cause.TheVariants.{FrameReceived, ReceiverError, SenderError}
+use Rattle.can_fault.specs.declared.cause.Cause.TheVariants.{FrameReceived, FrameSent, ReceiverError, SenderError}
 use Rattle.can_fault.specs.Counters.{ConfineParts, changed, counted, is_bus_off}
 use Rattle.can_mac.specs.declared.phase.Role.TheVariants.{Receiver}
 use Rattle.can_mac.specs.Frames.{behind_part, counters_after, slot_place}
 use Rattle.can_node.specs.Ports.{PortState, waiting}
 use Rattle.can_node.proofs.FrameLeaves.{Sends, Receives}
 use Rattle.can_bus.specs.Quiet.{holds}
-use Rattle.can_bus.specs.Attempts.{Tally, IsLow, changed_by, tallied}
-use Rattle.can_bus.proofs.CalmPorts.{IsWithin, within-received, sends-has}
+use Rattle.can_bus.specs.Attempts.{Tally, IsLow, after_receiver_error, after_reception, tallied}
+use Rattle.can_bus.proofs.CalmPorts.{IsWithin, received-fewer, within-received, sends-has}
 use Rattle.can_bus.proofs.QuietLogs.{TakesPart, holds-own, holds-none, others-of}
 
 -- ---- One error more.
@@ -46,6 +46,26 @@ on-bus h c within = false_from_ne_true (leb 256 c.tec) (λ e. omega (arith, leb-
 pub counted-on : (h : ℕ) (cause : Cause) (c : ConfineParts) → IsWithin h c → counted cause c ≡ changed cause c
 counted-on h cause c within = cond-false (is_bus_off c) c (changed cause c) (on-bus h c within)
 
+-- what can_fault counts, at an error active port, is what the tally says of a frame that is sent, of one that is received, and of an error
+-- at its sender and at a receiver
+module _ (h : ℕ) (c : ConfineParts) (within : IsWithin h c) where
+  tally-by : (cause : Cause) (t : Tally) → tally_of (changed cause c) ≡ t → tally_of (counted cause c) ≡ t
+  tally-by cause t same = ap tally_of (counted-on h cause c within) ∙ same
+
+  pub sent-counts : tally_of (counted FrameSent c) ≡ record { tec = c.tec - 1; rec = c.rec }
+  sent-counts = tally-by FrameSent _ refl
+
+  pub reception-counts : tally_of (counted FrameReceived c) ≡ after_reception (tally_of c)
+  reception-counts = tally-by FrameReceived _ (ap (λ n. let t : Tally = record { tec = c.tec; rec = n } in t) (received-fewer c.rec within.low_rec))
+
+  pub sender-error-counts : tally_of (counted SenderError c) ≡ record { tec = c.tec + 8; rec = c.rec }
+  sender-error-counts = tally-by SenderError _ refl
+
+  pub receiver-error-counts : tally_of (counted ReceiverError c) ≡ after_receiver_error (tally_of c)
+  receiver-error-counts =
+      let few : min (c.rec + 1) 255 ≡ c.rec + 1 = omega (arith, within.low_rec) in
+      tally-by ReceiverError _ (ap (λ n. let t : Tally = record { tec = c.tec; rec = n } in t) few)
+
 abbrev pub part-holds : (f : Parts) (p : PortState) → TakesPart f p → Bool
 part-holds f p (inl sends) = true
 part-holds f p (inr receives) = false
@@ -56,18 +76,15 @@ holds-part f p (inr receives) = holds-none f p.queue (others-of f p.queue (waiti
 
 -- behind the ACK slot a receiver has counted a reception
 pub slot-tally : (h : ℕ) (f : Parts) (o : ℕ) (c : ConfineParts) → IsWithin h c →
-    tally_of (counters_after Receiver c (behind_part f o)) ≡ (if nat_lt (slot_place f) o then changed_by FrameReceived (tally_of c) else tally_of c)
+    tally_of (counters_after Receiver c (behind_part f o)) ≡ (if nat_lt (slot_place f) o then after_reception (tally_of c) else tally_of c)
 slot-tally h f o c within = elim (cases_lt (slot_place f) o) [
   | inl past ↦
-      ap tally_of (cond-false (ltb (behind_part f o) 2) _ _ (le-ltb (behind_part f o) 2 (omega (arith, past))) ∙ counted-on h FrameReceived c within)
-      ∙ sym (cond-true (ltb (slot_place f) o) (changed_by FrameReceived (tally_of c)) (tally_of c) (lt-ltb (slot_place f) o past))
+      ap tally_of (cond-false (ltb (behind_part f o) 2) _ _ (le-ltb (behind_part f o) 2 (omega (arith, past)))) ∙ reception-counts h c within
+      ∙ sym (cond-true (ltb (slot_place f) o) (after_reception (tally_of c)) (tally_of c) (lt-ltb (slot_place f) o past))
   | inr early ↦
       ap tally_of (cond-true (ltb (behind_part f o) 2) _ _ (lt-ltb (behind_part f o) 2 (omega (arith, early))))
-      ∙ sym (cond-false (ltb (slot_place f) o) (changed_by FrameReceived (tally_of c)) (tally_of c) (le-ltb (slot_place f) o early))
+      ∙ sym (cond-false (ltb (slot_place f) o) (after_reception (tally_of c)) (tally_of c) (le-ltb (slot_place f) o early))
 ]
-
-pub error-tally : (h : ℕ) (c : ConfineParts) → IsWithin h c → tally_of (counted ReceiverError c) ≡ changed_by ReceiverError (tally_of c)
-error-tally h c within = ap tally_of (counted-on h ReceiverError c within)
 
 -- ---- A port that a hit leaves error active.
 

@@ -4,16 +4,14 @@ use Rattle.std.proofs.Common.{◌≡◌, ℕ, zero, suc, ◌+◌, ◌-◌, ◌*�
 use Rattle.std.proofs.lemmas.Bool.{cases_lt}
 use Rattle.std.proofs.lemmas.List.{take_all}
 use Rattle.can_frame.specs.Parts.{Parts}
-use Rattle.can_fault.specs.declared.cause.Cause.TheVariants.{FrameReceived}
 use Rattle.can_mac.specs.Frames.{slot_place}
 use Rattle.can_node.specs.Ports.{PortState}
 use Rattle.can_hit.specs.declared.hit.Hit.{Hit}
 use Rattle.can_hit.specs.declared.hit.Hit.TheVariants.{In}
-use Rattle.can_bus.specs.Attempts.{AreApart, IsLow, Tally, changed_by, hit_of, tallied}
+use Rattle.can_bus.specs.Attempts.{AreApart, IsLow, Tally, after_reception, hit_of, tallied}
 use Rattle.can_bus.specs.Course.{Transmission, and_hit, course_tally, hits_made, keeping}
 use Rattle.can_bus.specs.Quiet.{holds}
 use Rattle.can_bus.specs.Repair.{AreBorne, AreHeld, AreOfOnePort, HoldsAllOrNone, attempts_from, no_errors, repaired_course, tally}
-use Rattle.can_bus.proofs.CalmPorts.{received-fewer, received-le}
 use Rattle.can_bus.proofs.Members.{none-taken}
 use Rattle.can_bus.proofs.RepairPlans.{few-made, frames_left, hit-cases, struck-there}
 
@@ -23,18 +21,18 @@ abbrev Few : ℕ → Tally → Type 0
 Few n t = (t.tec ≤ 8 * n) × (t.rec ≤ n)
 
 -- what a receiver has counted where it is hit, the reception before or not
-fewer-or-same : (b : Bool) (t : Tally) → (if b then changed_by FrameReceived t else t).rec ≤ t.rec
-fewer-or-same true t = received-le t.rec
+fewer-or-same : (b : Bool) (t : Tally) → (if b then after_reception t else t).rec ≤ t.rec
+fewer-or-same true t = omega arith
 fewer-or-same false t = omega arith
 
-same-tec : (b : Bool) (t : Tally) → (if b then changed_by FrameReceived t else t).tec ≡ t.tec
+same-tec : (b : Bool) (t : Tally) → (if b then after_reception t else t).tec ≡ t.tec
 same-tec true t = refl
 same-tec false t = refl
 
 -- each hit counts eight at most
 few-tallied : (n : ℕ) (holds_it : Bool) (f : Parts) (hit : Option ℕ) (t : Tally) → Few n t → Few (and_hit hit n) (tallied holds_it f hit t)
 few-tallied n true f None t few = (omega (arith, few.0), few.1)
-few-tallied n false f None t few = (few.0, omega (arith, few.1, received-le t.rec))
+few-tallied n false f None t few = (few.0, omega (arith, few.1))
 few-tallied n true f (Some o) t few = (omega (arith, few.0), omega (arith, few.1))
 few-tallied n false f (Some o) t few = (
   omega (arith, few.0, same-tec (nat_lt (slot_place f) o) t),
@@ -141,9 +139,9 @@ module _ (hits : List Hit) (nine : AreApart 9 hits) where
   tallied-other false f None t = refl
   tallied-other false f (Some o) t = same-tec (nat_lt (slot_place f) o) t
 
-  tallied-fewer : (b : Bool) (f : Parts) (t : Tally) → own b t < 128 → own b (tallied b f None t) ≡ own b t - 1
-  tallied-fewer true f t low = refl
-  tallied-fewer false f t low = received-fewer t.rec low
+  tallied-fewer : (b : Bool) (f : Parts) (t : Tally) → own b (tallied b f None t) ≡ own b t - 1
+  tallied-fewer true f t = refl
+  tallied-fewer false f t = refl
 
   tallied-more : (b : Bool) (f : Parts) (o : ℕ) (t : Tally) → own b (tallied b f (Some o) t) ≤ own b t + 8
   tallied-more true f o t = omega arith
@@ -164,8 +162,8 @@ module _ (hits : List Hit) (nine : AreApart 9 hits) where
       let left = ap (allowance hits) (let k : number + 1 ≡ suc number = omega arith in k) ∙ ap (λ w. allowed w (allowance hits number)) none in
       record {
         still = tallied-other b f None t ∙ is.still;
-        most = omega (arith, tallied-fewer b f t (omega (arith, is.most)), is.most);
-        soon = omega (arith, tallied-fewer b f t (omega (arith, is.most)), is.soon, left);
+        most = omega (arith, tallied-fewer b f t, is.most);
+        soon = omega (arith, tallied-fewer b f t, is.soon, left);
       }
   restored b number f (Some o) t some is =
       let left = ap (allowance hits) (let k : number + 1 ≡ suc number = omega arith in k) ∙ ap (λ w. allowed w (allowance hits number)) some in

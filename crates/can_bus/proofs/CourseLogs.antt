@@ -26,7 +26,7 @@ use Rattle.can_bus.specs.Attempts.{IsLow, Tally, tallied}
 use Rattle.can_bus.proofs.RestingPorts.{IsAtRest}
 use Rattle.can_bus.proofs.QuietLogs.{entry_of, misses-part}
 use Rattle.can_bus.proofs.CalmPorts.{IsWithin}
-use Rattle.can_bus.proofs.AttemptTallies.{Survives, counted-on, holds-part, part-holds, tally_of}
+use Rattle.can_bus.proofs.AttemptTallies.{Survives, holds-part, part-holds, reception-counts, sent-counts, tally_of}
 use Rattle.can_bus.proofs.RepairCounts.{within-le, within-role}
 use Rattle.can_bus.proofs.Repairs.{broken_levels, broken-tally, Stays, part-stays}
 use Rattle.can_bus.proofs.HitKept.{Kept, along-part, hit-kept}
@@ -156,10 +156,10 @@ module _ (h now n : ℕ) (f : Parts) (o : CoursePort) (is : IsCoursePort h now n
 
   -- the counters are those of the tally once the wire has ended
   sent-tally : tally_of (counted FrameSent p.mac.counters) ≡ tallied true f None (counts_of o)
-  sent-tally = ap tally_of (counted-on h FrameSent p.mac.counters is.calm.within)
+  sent-tally = sent-counts h p.mac.counters is.calm.within
 
   received-tally : tally_of (counted FrameReceived p.mac.counters) ≡ tallied false f None (counts_of o)
-  received-tally = ap tally_of (counted-on h FrameReceived p.mac.counters is.calm.within)
+  received-tally = reception-counts h p.mac.counters is.calm.within
 
   tally-end : (arrives : ℕ → List Parts) → HasPart f o → (k : ℕ) → length (wire f) ≤ k → tally_of (port_at f p arrives k).mac.counters ≡ tallied (holds o.mine f) f None (counts_of o)
   tally-end arrives part zero past = absurd (omega (arith, past, length-wire f))

@@ -17,7 +17,6 @@ use Rattle.can_bus.specs.Quiet.{AreDifferent, holds, busy_time}
 use Rattle.can_bus.specs.Attempts.{IsLow, Tally, tallied}
 use Rattle.can_bus.specs.Schedule.{IsScheduleOf, StartsAt, schedule, starts_of, track_at, unhit}
 use Rattle.can_bus.specs.Timed.{Lists, TimedParts, earliest, frames_of, offered_by, without_offer}
-use Rattle.can_bus.proofs.CalmPorts.{received-le}
 use Rattle.can_bus.proofs.CourseLaws.{course-only, course-there}
 use Rattle.can_bus.proofs.CourseTracks.{course-frames, course-rise, line-wire, made-offered, track-before, track-behind, track-on}
 use Rattle.can_bus.proofs.LeftOffers.{differ-from, one-of-field}
@@ -137,7 +136,7 @@ unhit-ended starts t past z made =
 -- the tally never rises
 tallied-low : (own : Bool) (f : Parts) (t : Tally) → IsLow t → IsLow (tallied own f None t)
 tallied-low true f t low = record { tec = omega (arith, low.tec); rec = low.rec }
-tallied-low false f t low = record { tec = low.tec; rec = omega (arith, low.rec, received-le t.rec) }
+tallied-low false f t low = record { tec = low.tec; rec = omega (arith, low.rec) }
 
 pub unhit-low : (queue : List Parts) (starts : List TimedParts) (number : ℕ) (t : Tally) → IsLow t → IsLow (course_tally queue (take number (unhit starts)) t)
 unhit-low queue [] zero t low = low

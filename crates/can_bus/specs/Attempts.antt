@@ -1,13 +1,11 @@
 -- Attempts that are hit: in which attempt and where, in the window of its frame, and what the ports count. Nothing here knows what a
 -- port does in a bit time. (docs/BUS.md, "A disturbed bus"; Bosch CAN 2.0 part B, sections whose numbers stand in brackets)
-use Rattle.std.specs.Prelude.{ℕ, ◌≡◌, ◌+◌, ◌<◌, ◌≤◌, ◌==◌, nat_lt, Bool, true, false, if◌then◌else◌, List, [], ◌∷◌, length, take, Option, Some, None, slice_get}
+use Rattle.std.specs.Prelude.{ℕ, ◌≡◌, ◌+◌, ◌-◌, ◌<◌, ◌≤◌, ◌==◌, nat_lt, Bool, true, false, if◌then◌else◌, List, [], ◌∷◌, length, take, Option, Some, None, slice_get}
 use Rattle.can_frame.specs.Parts.{Parts}
 use Rattle.can_frame.specs.Arbitration.{arbitration_field}
 use Rattle.can_wire.specs.Stuffing.{kept}
 use Rattle.can_wire.specs.Wire.{stuffed_part, wire}
-use Rattle.can_fault.specs.declared.cause.Cause.{Cause}
-use Rattle.can_fault.specs.declared.cause.Cause.TheVariants.{FrameReceived, FrameSent, ReceiverError, SenderError}
-use Rattle.can_fault.specs.Counters.{changed, fresh}
+use Rattle.can_fault.specs.Counters.{fresh}
 use Rattle.can_mac.specs.Frames.{IsActive, slot_place}
 use Rattle.can_hit.specs.declared.hit.Hit.{Hit}
 use Rattle.can_hit.specs.declared.hit.Hit.TheVariants.{At, In, View}
@@ -53,20 +51,23 @@ pub record Tally : Type 0 where
   pub tec : ℕ
   pub rec : ℕ
 
--- what a cause makes of them (8)
-abbrev pub changed_by : Cause → Tally → Tally
-changed_by cause t =
-    let c = changed cause (record fresh { tec = t.tec; rec = t.rec }) in
-    record { tec = c.tec; rec = c.rec }
+-- after a reception: 1 less on the REC, not below 0 (8, rule 8)
+abbrev pub after_reception : Tally → Tally
+after_reception t = record { tec = t.tec; rec = t.rec - 1 }
 
--- What an attempt to send f makes of them, at the port that holds f and at each other one. Where it isn't hit, the frame is sent and
--- received. Where it is hit, each port counts an error; where the hit falls behind the ACK slot, a receiver has counted the reception
--- before.
+-- after an error that a receiver detects: 1 more on the REC (8, rule 1)
+abbrev pub after_receiver_error : Tally → Tally
+after_receiver_error t = record { tec = t.tec; rec = t.rec + 1 }
+
+-- What an attempt to send f makes of them, at the port that holds f and at each other one. If it isn't hit, the frame is sent, which takes
+-- 1 off the TEC of its sender (8, rule 7), and received. If it is hit, the sender detects an error, which adds 8 to its TEC (8, rule 3),
+-- and so does each receiver; if the hit falls after the ACK slot, a receiver has counted the reception before. (These are numbers of an
+-- error active port, written out again: proofs/AttemptTallies.antt ties them to those of can_fault.)
 abbrev pub tallied : Bool → Parts → Option ℕ → Tally → Tally
-tallied true f None t = changed_by FrameSent t
-tallied false f None t = changed_by FrameReceived t
-tallied true f (Some offset) t = changed_by SenderError t
-tallied false f (Some offset) t = changed_by ReceiverError (if nat_lt (slot_place f) offset then changed_by FrameReceived t else t)
+tallied true f None t = record { tec = t.tec - 1; rec = t.rec }
+tallied false f None t = after_reception t
+tallied true f (Some offset) t = record { tec = t.tec + 8; rec = t.rec }
+tallied false f (Some offset) t = after_receiver_error (if nat_lt (slot_place f) offset then after_reception t else t)
 
 -- counters of an error active port (8)
 abbrev pub IsLow : Tally → Type 0

@@ -4,3 +4,5 @@ pub mod Moves
 pub mod Machine
 pub mod Frames
 pub mod Codes
+-- For speed: which levels the quick ways take
+pub mod Quick

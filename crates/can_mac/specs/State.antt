@@ -55,24 +55,6 @@ is_off_phase (Delimiter place) = false
 is_off_phase (Intermission place) = false
 is_off_phase (Suspend place) = false
 
--- whether it is the phase of a controller that is idle, or in a frame or the intermission behind it
-abbrev pub is_frame_phase : MacPhase → Bool
-is_frame_phase Idle = true
-is_frame_phase (StuffedPart front) = true
-is_frame_phase (CrcDelimiter r) = true
-is_frame_phase (AckSlot r) = true
-is_frame_phase (AckDelimiter r) = true
-is_frame_phase (EndOfFrame r place) = true
-is_frame_phase (Intermission place) = true
-is_frame_phase (Joining row) = false
-is_frame_phase (ErrorFlag place) = false
-is_frame_phase (PassiveFlag last run unacknowledged) = false
-is_frame_phase (OverloadFlag place) = false
-is_frame_phase (AfterFlag first dominant) = false
-is_frame_phase (Delimiter place) = false
-is_frame_phase (Suspend place) = false
-is_frame_phase BusOff = false
-
 -- What holds of every controller.
 
 -- a frame whose stuffed part goes on

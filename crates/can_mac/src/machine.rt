@@ -1,11 +1,12 @@
-ghost use Rattle.std.specs.Prelude.{◌≡◌, ◌≤◌, ◌↔◌, length, true, false, IfSome, IsNone, IsTrue, IsFalse, Option, None};
+ghost use Rattle.std.specs.Prelude.{◌≡◌, ◌≢◌, ◌≤◌, ◌↔◌, length, true, false, IfSome, IsNone, IsTrue, IsFalse, Option, None};
 ghost use Rattle.std.specs.Option.{option_copied};
 ghost use Rattle.can_code.specs.Front.{FrontParts};
 ghost use Rattle.can_frame.specs.Parts.{Parts};
 ghost use Rattle.can_fault.specs.Counters.{counted, is_bus_off, is_passive as is_passive_by};
-ghost use Rattle.can_mac.specs.State.{idle as idle_state, IsMac, IsPhase, IsFrameOrNone, is_frame_phase as is_frame_phase_of, is_off_phase, joining as joining_state, starting};
+ghost use Rattle.can_mac.specs.State.{idle as idle_state, IsMac, IsPhase, IsFrameOrNone, is_off_phase, joining as joining_state, starting};
 ghost use Rattle.can_mac.specs.Frames.{IsBehindError, IsOutOfStep, IsPoised, IsPoisedAs, behind_frame, receiving_in};
 ghost use Rattle.can_mac.specs.Moves.{move, move_keeping};
+ghost use Rattle.can_mac.specs.Quick.{is_quiet_level, is_silent_level, stays_off};
 ghost use Rattle.can_mac.specs.Machine.{holding, IsSilent, mac_drives, mac_step, off_step, on_step, stance as stance_of, step_counting};
 
 use crate::copying::phase_copied;
@@ -125,41 +126,14 @@ impl<B: FrameBits> MediumAccess<B> {
         }
     }
 
-    /// Takes a level with which the controller just goes on, which most are: nothing but its phase changes, and
-    /// nothing is told. It answers whether the level is one; else nothing changes, and [`MediumAccess::sample`]
-    /// takes it. A caller that asks this first spares itself the event.
-    #[tactic(auto, unfolding(crate::specs::Machine::mac_step))]
-    #[inline(always)]
-    pub fn passes(&mut self, waiting: Option<&Frame>, seen: Level) -> bool
-        ensures taken { IsTrue result → mac_step self.old (option_copied waiting.entry) seen ≡ (self.new, None) }
-        ensures unchanged { IsFalse result → self.new ≡ self.old }
-        ensures kept { IsMac self.new }
-        ensures in_frames { IsTrue result → is_frame_phase_of self.old.phase ≡ true }
-    {
-        is_frame_phase(&self.phase) && self.takes_quietly(waiting, seen)
-    }
-
-    /// Takes a level with which the controller just goes on, as [`MediumAccess::passes`] does, and behind which it
-    /// drives recessive: both whatever waits. Most levels are such to a receiver, and a caller that asks this first
-    /// need not look for the frame that waits.
-    #[tactic(auto, unfolding(crate::specs::Machine::mac_step, crate::specs::Machine::mac_drives))]
-    #[inline(always)]
-    pub fn follows(&mut self, seen: Level) -> bool
-        ensures taken { IsTrue result → (waiting : Option Parts) → mac_step self.old waiting seen ≡ (self.new, None) }
-        ensures recessive { IsTrue result → (waiting : Option Parts) → mac_drives self.new waiting ≡ Level.Recessive }
-        ensures unchanged { IsFalse result → self.new ≡ self.old }
-        ensures kept { IsMac self.new }
-        ensures in_frames { IsTrue result → is_frame_phase_of self.old.phase ≡ true }
-    {
-        is_frame_phase(&self.phase) && self.takes_silently(seen)
-    }
-
-    /// Takes a level with which nothing but its phase changes, and nothing is told: those that [`MediumAccess::passes`]
-    /// takes, and such levels of flags and delimiters, of suspend transmission and of joining. It answers whether the
-    /// level is one; else nothing changes.
+    /// Takes a quiet level, and returns true: one that is reported by no event, and at which only the phase changes. Most
+    /// levels in frames, flags, delimiters and intermission are such; `specs/Quick.antt` lists them. At any other level
+    /// it returns false, and nothing changes: [`MediumAccess::sample`] takes it. A caller that asks this first spares
+    /// itself the event.
     #[tactic(auto, unfolding(crate::specs::Machine::mac_step))]
     #[inline(always)]
     pub fn takes_quietly(&mut self, waiting: Option<&Frame>, seen: Level) -> bool
+        ensures exactly { result ≡ is_quiet_level self.old.role self.old.phase (option_copied waiting.entry) seen }
         ensures taken { IsTrue result → mac_step self.old (option_copied waiting.entry) seen ≡ (self.new, None) }
         ensures unchanged { IsFalse result → self.new ≡ self.old }
         ensures kept { IsMac self.new }
@@ -168,13 +142,13 @@ impl<B: FrameBits> MediumAccess<B> {
         goes_on_quietly(&self.role, &mut self.phase, waiting, seen)
     }
 
-    /// Takes a level that tells nothing, and behind which it drives recessive, both whatever waits: those that
-    /// [`MediumAccess::follows`] takes, such levels of passive error flags, behind flags and in delimiters, of suspend
-    /// transmission and of joining, and those that [`MediumAccess::stays_off`] takes off the bus. It answers whether the
-    /// level is one; else nothing changes.
+    /// Takes a silent level, and returns true: one that is reported by no event, and after which the controller drives
+    /// recessive, both whatever frame waits. Most levels are such to a receiver, which then need not look for the frame
+    /// that waits; `specs/Quick.antt` lists them. At any other level it returns false, and nothing changes.
     #[tactic(auto, unfolding(crate::specs::Machine::mac_step, crate::specs::Machine::mac_drives))]
     #[inline(always)]
     pub fn takes_silently(&mut self, seen: Level) -> bool
+        ensures exactly { result ≡ is_silent_level self.old seen }
         ensures taken { IsTrue result → (waiting : Option Parts) → mac_step self.old waiting seen ≡ (self.new, None) }
         ensures recessive { IsTrue result → (waiting : Option Parts) → mac_drives self.new waiting ≡ Level.Recessive }
         ensures unchanged { IsFalse result → self.new ≡ self.old }
@@ -190,6 +164,8 @@ impl<B: FrameBits> MediumAccess<B> {
     #[tactic(auto, unfolding(crate::specs::Machine::mac_step, crate::specs::Machine::mac_drives))]
     #[inline(never)]
     fn takes_silently_outside(&mut self, seen: Level) -> bool
+        requires { (front : FrontParts) → self.old.phase ≢ Phase.StuffedPart front }
+        ensures exactly { result ≡ is_silent_level self.old seen }
         ensures taken { IsTrue result → (waiting : Option Parts) → mac_step self.old waiting seen ≡ (self.new, None) }
         ensures recessive { IsTrue result → (waiting : Option Parts) → mac_drives self.new waiting ≡ Level.Recessive }
         ensures unchanged { IsFalse result → self.new ≡ self.old }
@@ -198,11 +174,12 @@ impl<B: FrameBits> MediumAccess<B> {
         self.stays_off(seen) || goes_on_silently(&mut self.phase, seen)
     }
 
-    /// Takes a level off the bus, unless bus off may end soon, which [`MediumAccess::sample`] looks at. It answers whether
-    /// it took it; else nothing changes.
+    /// Takes a level off the bus, and returns true, unless only one occurrence of eleven recessive levels is missing until
+    /// bus off ends. Then, and on the bus, it returns false, and nothing changes: [`MediumAccess::sample`] takes the level.
     #[tactic(auto, unfolding(crate::specs::Machine::mac_step, crate::specs::Machine::mac_drives))]
     #[inline(always)]
     pub fn stays_off(&mut self, seen: Level) -> bool
+        ensures exactly { result ≡ stays_off self.old }
         ensures taken { IsTrue result → (waiting : Option Parts) → mac_step self.old waiting seen ≡ (self.new, None) }
         ensures recessive { IsTrue result → (waiting : Option Parts) → mac_drives self.new waiting ≡ Level.Recessive }
         ensures unchanged { IsFalse result → self.new ≡ self.old }
@@ -370,23 +347,6 @@ fn within_limits(waiting: Option<&Frame>)
     if let Some(frame) = waiting {
         let _ = frame.bytes();
     }
-}
-
-/// Whether it is the phase of a controller that is idle, or in a frame or the intermission behind it.
-#[inline(always)]
-fn is_frame_phase<B: FrameBits>(phase: &Phase<Front<B>>) -> bool
-    ensures { result ≡ is_frame_phase_of phase.now }
-{
-    matches!(
-        phase,
-        Phase::Idle
-            | Phase::StuffedPart(_)
-            | Phase::CrcDelimiter(_)
-            | Phase::AckSlot(_)
-            | Phase::AckDelimiter(_)
-            | Phase::EndOfFrame { .. }
-            | Phase::Intermission { .. }
-    )
 }
 
 /// Whether a controller in this phase is behind an error and drives nothing, though a frame begins.

@@ -1,3 +1,8 @@
+ghost use Rattle.std.specs.Prelude.{◌≡◌, ◌+◌, ◌<◌, ◌≤◌, length, IsFalse, IsTrue, Option};
+ghost use Rattle.can_frame.specs.Parts.{Parts};
+ghost use Rattle.can_mac.specs.Frames.{IsPoised, IsPoisedAs};
+ghost use Rattle.can_node.specs.Passing.{IsAside};
+ghost use Rattle.can_node.specs.Ports.{waiting};
 ghost use Rattle.can_node.specs.declared.either.EitherNode.TheVariants.{Plain, Packed};
 
 use crate::entry::Entry;
@@ -62,7 +67,10 @@ impl Port for EitherNode {
     }
 
     #[inline]
-    fn poised(&self) -> Poised {
+    fn poised(&self) -> Poised
+        ensures yes { IsPoisedAs result (⟦<EitherNode as Port>⟧.port self.now).mac (waiting (⟦<EitherNode as Port>⟧.port self.now).queue) }
+        ensures no { result ≡ Poised.Not → (next : Option Parts) → IsPoised (⟦<EitherNode as Port>⟧.port self.now).mac (waiting (⟦<EitherNode as Port>⟧.port self.now).queue) next → ⊥ }
+    {
         match self {
             EitherNode::Plain(node) => node.poised(),
             EitherNode::Packed(node) => node.poised(),
@@ -91,14 +99,20 @@ impl Port for EitherNode {
         }
     }
 
-    fn stands_aside(&self) -> bool {
+    fn stands_aside(&self) -> bool
+        ensures yes { IsTrue result → IsAside (⟦<EitherNode as Port>⟧.port self.now) }
+        ensures no { IsFalse result → IsAside (⟦<EitherNode as Port>⟧.port self.now) → ⊥ }
+    {
         match self {
             EitherNode::Plain(node) => node.stands_aside(),
             EitherNode::Packed(node) => node.stands_aside(),
         }
     }
 
-    fn has_room(&self, count: usize) -> bool {
+    fn has_room(&self, count: usize) -> bool
+        ensures yes { IsTrue result → length (⟦<EitherNode as Port>⟧.port self.now).queue + count ≤ (⟦<EitherNode as Port>⟧.port self.now).queue_room }
+        ensures no { IsFalse result → (⟦<EitherNode as Port>⟧.port self.now).queue_room < length (⟦<EitherNode as Port>⟧.port self.now).queue + count }
+    {
         match self {
             EitherNode::Plain(node) => node.has_room(count),
             EitherNode::Packed(node) => node.has_room(count),

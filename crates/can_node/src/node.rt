@@ -41,7 +41,8 @@ impl<B: FrameBits> Node<B> {
     ghost use Rattle.can_node.specs.Ports.{fresh_port};
 
     /// A port that is on the bus and idle, with room for so many frames that wait and so many entries
-    /// of the log. It fails only where an allocation does, and then keeps nothing.
+    /// of the log. It fails only if an allocation does, or if the queue is to have room for more than 2^60 frames, and then
+    /// keeps nothing.
     pub fn new(alloc: Global, queue: usize, log: usize) -> Result<Self, AllocError>
         ensures port { IfOk result (λ n. ⟦<Node<B> as Port>⟧.port n ≡ fresh_port idle queue log) }
         ensures no_rooms { queue ≡ 0 → log ≡ 0 → IsOk result }
@@ -203,6 +204,9 @@ impl<B: FrameBits> Node<B> {
 }
 
 impl<B: FrameBits> Port for Node<B> {
+    ghost use Rattle.std.specs.Prelude.{◌+◌, ◌≤◌};
+    ghost use Rattle.can_mac.specs.Frames.{IsPoisedAs};
+    ghost use Rattle.can_node.specs.Passing.{IsAside};
     ghost use Rattle.can_node.specs.Tournament.{frames_in};
 
     ghost port = { λ n. record { mac = n.mac; queue = frames_in n.queue.slots.items; queue_room = n.queue.room; log = n.log.entries.items; log_room = n.log.room; missed = n.log.missed } };
@@ -247,7 +251,10 @@ impl<B: FrameBits> Port for Node<B> {
     }
 
     #[inline]
-    fn poised(&self) -> Poised {
+    fn poised(&self) -> Poised
+        ensures yes { IsPoisedAs result (⟦<Node<B> as Port>⟧.port self.now).mac (waiting (⟦<Node<B> as Port>⟧.port self.now).queue) }
+        ensures no { result ≡ Poised.Not → (next : Option Parts) → IsPoised (⟦<Node<B> as Port>⟧.port self.now).mac (waiting (⟦<Node<B> as Port>⟧.port self.now).queue) next → ⊥ }
+    {
         self.mac.poised(self.queue.waiting())
     }
 
@@ -267,11 +274,17 @@ impl<B: FrameBits> Port for Node<B> {
         }
     }
 
-    fn stands_aside(&self) -> bool {
+    fn stands_aside(&self) -> bool
+        ensures yes { IsTrue result → IsAside (⟦<Node<B> as Port>⟧.port self.now) }
+        ensures no { IsFalse result → IsAside (⟦<Node<B> as Port>⟧.port self.now) → ⊥ }
+    {
         self.state() == State::BusOff || self.mac.is_out_of_step()
     }
 
-    fn has_room(&self, count: usize) -> bool {
+    fn has_room(&self, count: usize) -> bool
+        ensures yes { IsTrue result → length (⟦<Node<B> as Port>⟧.port self.now).queue + count ≤ (⟦<Node<B> as Port>⟧.port self.now).queue_room }
+        ensures no { IsFalse result → (⟦<Node<B> as Port>⟧.port self.now).queue_room < length (⟦<Node<B> as Port>⟧.port self.now).queue + count }
+    {
         self.queue.has_room(count)
     }
 

@@ -55,9 +55,9 @@ pub trait Port {
 
     /// How a frame that begins finds the port. The frame may pass it at once where its controller is idle or in suspend
     /// transmission, and asks for no overload frame. It begins with the frame that waits, but in suspend transmission with
-    /// none. A port that is never passed at once answers [`Poised::Not`].
+    /// none. A port may return [`Poised::Not`] where it doesn't know; [`Node`](crate::Node) knows always.
     fn poised(&self) -> Poised
-        ensures { IsPoisedAs result (port self.now).mac (waiting (port self.now).queue) }
+        ensures yes { IsPoisedAs result (port self.now).mac (waiting (port self.now).queue) }
     {
         Poised::Not
     }
@@ -90,16 +90,18 @@ pub trait Port {
     }
 
     /// Whether it takes no part in a frame that begins, whatever comes: it is off the bus, or error passive and behind an
-    /// error. It may say no where it doesn't know. (Bosch CAN 2.0 part B, sections 3.1.3 and 8)
+    /// error. A port may return false where it doesn't know; [`Node`](crate::Node) knows always. (Bosch CAN 2.0 part B,
+    /// sections 3.1.3 and 8)
     fn stands_aside(&self) -> bool
-        ensures { IsTrue result → IsAside (port self.now) }
+        ensures yes { IsTrue result → IsAside (port self.now) }
     {
         self.state() == State::BusOff
     }
 
-    /// Whether so many more frames have room in its queue. It may say no where it doesn't know.
+    /// Whether its queue has room for `count` more frames. A port may return false where it doesn't know;
+    /// [`Node`](crate::Node) knows always.
     fn has_room(&self, count: usize) -> bool
-        ensures { IsTrue result → length (port self.now).queue + count ≤ (port self.now).queue_room }
+        ensures yes { IsTrue result → length (port self.now).queue + count ≤ (port self.now).queue_room }
     {
         false
     }

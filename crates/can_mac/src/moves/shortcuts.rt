@@ -10,15 +10,17 @@
 //! `next_move` of `moves.rt` takes what is left. docs/ARCHITECTURE.md has who asks them, beside the ways of ports and
 //! buses; docs/DECISIONS.md tells what each spares.
 
-ghost use Rattle.std.specs.Prelude.{◌≡◌, ◌≢◌, IfSome, IsFalse, IsNone, IsTrue, Option, None, Some, false};
+ghost use Rattle.std.specs.Prelude.{ℕ, Bool, ◌≡◌, ◌≢◌, IfSome, IsFalse, IsNone, IsTrue, Option, None, Some, false};
 ghost use Rattle.std.specs.Option.{option_copied};
 ghost use Rattle.can_code.specs.Front.{FrontParts, first_front, is_stuff_error, next_place as next_place_of};
+ghost use Rattle.can_frame.specs.declared.level.Level.{Level as Bit};
 ghost use Rattle.can_frame.specs.Parts.{Parts};
 ghost use Rattle.can_mac.specs.Machine.{phase_drives};
 ghost use Rattle.can_mac.specs.State.{IsPhase, is_off_phase};
 ghost use Rattle.can_mac.specs.Moves.{goes, hears, move, next_role, part_phase, stuffed_part_move};
+ghost use Rattle.can_mac.specs.Quick.{counts_on, is_heard, is_quiet_level, is_received};
 ghost use Rattle.can_mac.specs.declared.moves.Stance.{Stance as Standing};
-ghost use Rattle.can_mac.specs.declared.phase.Phase.TheVariants.{AckDelimiter, AckSlot, CrcDelimiter, EndOfFrame, Intermission, StuffedPart};
+ghost use Rattle.can_mac.specs.declared.phase.Phase.TheVariants.{AckDelimiter, AckSlot, AfterFlag, CrcDelimiter, EndOfFrame, ErrorFlag, Intermission, OverloadFlag, PassiveFlag, StuffedPart};
 ghost use Rattle.can_mac.specs.declared.phase.Reading.{Reading as ReadingParts};
 ghost use Rattle.can_mac.specs.declared.phase.Role.{Role as Part};
 
@@ -45,6 +47,7 @@ pub(crate) fn goes_on_quietly<B: FrameBits>(
     seen: Level,
 ) -> bool
     requires { IsPhase phase.old }
+    ensures exactly { result ≡ is_quiet_level role.now phase.old (option_copied waiting.entry) seen }
     ensures on { IsTrue result → (s : Standing) → s.role ≡ role.now → move s phase.old (option_copied waiting.entry) seen ≡ goes s phase.new }
     ensures on_bus { IsTrue result → is_off_phase phase.old ≡ false }
     ensures unchanged { IsFalse result → phase.new ≡ phase.old }
@@ -59,6 +62,7 @@ pub(crate) fn goes_on_quietly<B: FrameBits>(
 #[inline(always)]
 fn hears_on<B: FrameBits>(role: &Role, phase: &mut Phase<Front<B>>, seen: Level) -> bool
     requires { IsPhase phase.old }
+    ensures exactly { (front : FrontParts) → phase.old ≡ StuffedPart front → result ≡ is_heard role.now front seen }
     ensures on { IsTrue result → (s : Standing) (waiting : Option Parts) → s.role ≡ role.now → move s phase.old waiting seen ≡ goes s phase.new }
     ensures silent { IsTrue result → (waiting : Option Parts) → phase_drives phase.new Role.Receiver waiting ≡ Level.Recessive }
     ensures on_bus { IsTrue result → is_off_phase phase.old ≡ false }
@@ -85,6 +89,7 @@ pub(crate) fn hears_on_silently<B: FrameBits>(
     seen: Level,
 ) -> bool
     requires { IsPhase phase.old }
+    ensures exactly { (front : FrontParts) → phase.old ≡ StuffedPart front → result ≡ is_received role.now front seen }
     ensures on { IsTrue result → (s : Standing) (waiting : Option Parts) → s.role ≡ role.now → move s phase.old waiting seen ≡ goes s phase.new }
     ensures silent { IsTrue result → (waiting : Option Parts) → phase_drives phase.new role.now waiting ≡ Level.Recessive }
     ensures on_bus { IsTrue result → is_off_phase phase.old ≡ false }
@@ -102,6 +107,7 @@ pub(crate) fn hears_on_silently<B: FrameBits>(
 #[inline(always)]
 pub(crate) fn goes_on_silently<B: FrameBits>(phase: &mut Phase<Front<B>>, seen: Level) -> bool
     requires { IsPhase phase.old }
+    ensures exactly { result ≡ counts_on phase.old seen }
     ensures on { IsTrue result → (s : Standing) (waiting : Option Parts) → move s phase.old waiting seen ≡ goes s phase.new }
     ensures silent { IsTrue result → (role : Part) (waiting : Option Parts) → phase_drives phase.new role waiting ≡ Level.Recessive }
     ensures on_bus { IsTrue result → is_off_phase phase.old ≡ false }
@@ -118,6 +124,7 @@ pub(crate) fn goes_on_silently<B: FrameBits>(phase: &mut Phase<Front<B>>, seen: 
 #[inline(always)]
 fn goes_on_in_passive_flag<B: FrameBits>(phase: &mut Phase<Front<B>>, seen: Level) -> bool
     requires { IsPhase phase.old }
+    ensures exactly { (last : Bit) (run : ℕ) (unacknowledged : Bool) → phase.old ≡ PassiveFlag last run unacknowledged → result ≡ counts_on phase.old seen }
     ensures on { IsTrue result → (s : Standing) (waiting : Option Parts) → move s phase.old waiting seen ≡ goes s phase.new }
     ensures silent { IsTrue result → (role : Part) (waiting : Option Parts) → phase_drives phase.new role waiting ≡ Level.Recessive }
     ensures on_bus { IsTrue result → is_off_phase phase.old ≡ false }
@@ -151,6 +158,7 @@ fn goes_on_in_passive_flag<B: FrameBits>(phase: &mut Phase<Front<B>>, seen: Leve
 #[inline(always)]
 fn goes_on_behind_flag<B: FrameBits>(phase: &mut Phase<Front<B>>, seen: Level) -> bool
     requires { IsPhase phase.old }
+    ensures exactly { (first : Bool) (dominant : ℕ) → phase.old ≡ AfterFlag first dominant → result ≡ counts_on phase.old seen }
     ensures on { IsTrue result → (s : Standing) (waiting : Option Parts) → move s phase.old waiting seen ≡ goes s phase.new }
     ensures silent { IsTrue result → (role : Part) (waiting : Option Parts) → phase_drives phase.new role waiting ≡ Level.Recessive }
     ensures on_bus { IsTrue result → is_off_phase phase.old ≡ false }
@@ -169,6 +177,7 @@ fn goes_on_behind_flag<B: FrameBits>(phase: &mut Phase<Front<B>>, seen: Level) -
 #[inline(always)]
 fn goes_on_counting<B: FrameBits>(phase: &mut Phase<Front<B>>, seen: Level) -> bool
     requires { IsPhase phase.old }
+    ensures exactly { ((last : Bit) (run : ℕ) (unacknowledged : Bool) → phase.old ≢ PassiveFlag last run unacknowledged) → ((first : Bool) (dominant : ℕ) → phase.old ≢ AfterFlag first dominant) → result ≡ counts_on phase.old seen }
     ensures on { IsTrue result → (s : Standing) (waiting : Option Parts) → move s phase.old waiting seen ≡ goes s phase.new }
     ensures silent { IsTrue result → (role : Part) (waiting : Option Parts) → phase_drives phase.new role waiting ≡ Level.Recessive }
     ensures on_bus { IsTrue result → is_off_phase phase.old ≡ false }
@@ -213,6 +222,7 @@ fn goes_on_quietly_outside<B: FrameBits>(
 ) -> bool
     requires phase { IsPhase phase.old }
     requires outside { (front : FrontParts) → phase.old ≢ StuffedPart front }
+    ensures exactly { result ≡ is_quiet_level role.now phase.old (option_copied waiting.entry) seen }
     ensures on { IsTrue result → (s : Standing) → s.role ≡ role.now → move s phase.old (option_copied waiting.entry) seen ≡ goes s phase.new }
     ensures on_bus { IsTrue result → is_off_phase phase.old ≡ false }
     ensures unchanged { IsFalse result → phase.new ≡ phase.old }
@@ -243,6 +253,8 @@ fn goes_on_quietly_outside<B: FrameBits>(
 #[inline(always)]
 fn goes_on_in_flag<B: FrameBits>(phase: &mut Phase<Front<B>>, seen: Level) -> bool
     requires { IsPhase phase.old }
+    ensures error { (role : Part) (waiting : Option Parts) (place : ℕ) → phase.old ≡ ErrorFlag place → result ≡ is_quiet_level role phase.old waiting seen }
+    ensures overload { (role : Part) (waiting : Option Parts) (place : ℕ) → phase.old ≡ OverloadFlag place → result ≡ is_quiet_level role phase.old waiting seen }
     ensures on { IsTrue result → (s : Standing) (waiting : Option Parts) → move s phase.old waiting seen ≡ goes s phase.new }
     ensures on_bus { IsTrue result → is_off_phase phase.old ≡ false }
     ensures unchanged { IsFalse result → phase.new ≡ phase.old }

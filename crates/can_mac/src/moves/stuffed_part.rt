@@ -4,6 +4,7 @@ ghost use Rattle.std.specs.Prelude.{◌≡◌, ◌≢◌, List, length, if◌the
 ghost use Rattle.can_frame.specs.declared.level.Level.{Level as Bit};
 ghost use Rattle.can_code.specs.Front.{FrontParts, is_stuff_error, next_place as next_place_of};
 ghost use Rattle.can_mac.specs.Moves.{hears, in_arbitration, part_phase, phase_after, move_keeping, sent_bit_move, stuff_error_move, stuffed_part_move};
+ghost use Rattle.can_mac.specs.Quick.{is_heard};
 ghost use Rattle.can_mac.specs.declared.moves.Stance.{Stance as Standing};
 ghost use Rattle.can_mac.specs.declared.phase.Phase.TheVariants.{StuffedPart};
 
@@ -35,6 +36,7 @@ pub(crate) fn stuffed_part<B: FrameBits>(
 #[inline(always)]
 pub(crate) fn is_in_order<B: FrameBits>(role: &Role, front: &Front<B>, seen: Level) -> bool
     requires { next_place_of front.now ≢ Place.CrcDelimiter }
+    ensures exactly { result ≡ is_heard role.now front.now seen }
     ensures heard { IsTrue result → (s : Standing) → s.role ≡ role.now → stuffed_part_move s front.now seen ≡ hears s front.now seen }
     ensures no_stuff_error { IsTrue result → is_stuff_error front.now seen ≡ false }
 {
