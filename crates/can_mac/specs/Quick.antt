@@ -1,6 +1,6 @@
 -- Which levels the quick ways take: levels at which the controller reports nothing, and only its phase changes, or off the bus its count
 -- of recessive levels. That they do so is said by the contracts; here is which levels they are.
-use Rattle.std.specs.Prelude.{ℕ, ◌==◌, nat_lt, Bool, true, false, not, if◌then◌else◌, length, Option, Some, None}
+use Rattle.std.specs.Prelude.{◌==◌, nat_lt, Bool, true, false, not, if◌then◌else◌, length, Option, Some, None}
 use Rattle.can_frame.specs.declared.level.Level.{Level}
 use Rattle.can_frame.specs.declared.level.Level.TheVariants.{Dominant, Recessive}
 use Rattle.can_frame.specs.Levels.{same}

@@ -18,4 +18,4 @@ returns-in-Some g c = λ fits.
     let xs = c.args.ports.now in
     let x = c.in-Some.port.now in
     let there : slice_get xs c.args.place ≡ Some x = slice_get_read xs (length xs) c.args.place x refl c.in-Some.ensures.lookup.3.0 (c.in-Some.ensures.lookup.4 (omega arith) x) in
-    place-room c.args.place c.args.count 0 c.args.place (map S xs) (S x) (omega arith) (slice_get-map S xs c.args.place ∙ ap (option_map S) there) (c.has_room.ensures fits)
+    place-room c.args.place c.args.count 0 c.args.place (map S xs) (S x) (omega arith) (slice_get-map S xs c.args.place ∙ ap (option_map S) there) (c.has_room.ensures.yes fits)

@@ -1,5 +1,4 @@
-use Rattle.std.proofs.Common.{Option, subst}
-use Rattle.can_frame.specs.Parts.{Parts}
+use Rattle.std.proofs.Common.{subst}
 use Rattle.can_mac.specs.Frames.{IsPoised}
 use Rattle.can_node.proofs.node.NodePort.poised.Goals as goal
 
