@@ -1,5 +1,5 @@
 -- A bus of ports that a caller has, with frames that are offered to them and disturbances. (docs/BUS.md, "Runs" and "Refusals")
-use Rattle.std.specs.Prelude.{ℕ, ◌≡◌, ◌<◌, ◌⊎◌, ◌==◌, nat_lt, Bool, true, false, if◌then◌else◌, List, [], ◌∷◌, length, map, Option, Some, None, slice_get}
+use Rattle.std.specs.Prelude.{ℕ, ◌≡◌, ◌+◌, ◌<◌, ◌⊎◌, ◌==◌, nat_lt, Bool, true, false, if◌then◌else◌, List, [], ◌∷◌, length, map, Option, Some, None, slice_get}
 use Rattle.std.specs.Option.{option_or}
 use Rattle.can_frame.specs.declared.level.Level.{Level}
 use Rattle.can_frame.specs.Levels.{level_code}
@@ -8,10 +8,10 @@ use Rattle.can_hit.specs.declared.hit.Hit.{Hit}
 use Rattle.can_hit.specs.Hits.{AreTaken}
 use Rattle.can_bus.specs.declared.fault.BusFault.{BusFault}
 use Rattle.can_bus.specs.declared.offer.Offer.{Offer}
-use Rattle.can_bus.specs.Course.{AllEnded, Transmission, course_at}
+use Rattle.can_bus.specs.Course.{AllEnded, Transmission, course_at, hits_made}
 use Rattle.can_bus.specs.Inputs.{IsFirstHitFault}
 use Rattle.can_bus.specs.Offers.{AreOffered, IsFirstOfferFault}
-use Rattle.can_bus.specs.Network.{NetworkLogBegins, NetworkLogHas, NetworkLogWhole, NetworkTally, StaysActive}
+use Rattle.can_bus.specs.Network.{AllCountAtMost, AllOver, CountsAtMost, IsFreeAgain, NetworkLogBegins, NetworkLogHas, NetworkLogWhole, NetworkTally, StaysActive}
 use Rattle.can_bus.specs.Quiet.{AtEachNode, AtEachPort, MissesNothing}
 use Rattle.can_bus.specs.Run.{AreLevelsOf, BusState, new_bus}
 use Rattle.can_c.specs.declared.handle.Handle.{Handle}
@@ -88,4 +88,6 @@ pub record IsNetworkRun (offers : List Offer) (course : List Transmission) (reco
   pub whole : AllEnded course (length recorded) → AtEachNode (NetworkLogWhole offers course) before after
   pub tally : AllEnded course (length recorded) → AtEachNode (NetworkTally offers course) before after
   pub active : AtEachPort StaysActive before after
+  pub counts : (errors : ℕ) → AllCountAtMost errors before → AtEachPort (λ p q. CountsAtMost (errors + hits_made course) q) before after
+  pub rests : AllOver course (length recorded) → AtEachPort IsFreeAgain before after
   pub missed : AtEachPort MissesNothing before after

@@ -74,7 +74,8 @@ pub trait Port {
     }
 
     /// Samples the first levels of a frame that may pass the port at once, up to some level of its stuffed part, where
-    /// another port has heard as many of them, if it takes part in the frame.
+    /// another port, the leader, has sampled the same levels, if it takes part in the frame. No call of a port tells whether
+    /// it has: a caller knows it of a port that it has given these levels, as [`Port::poised`] let them pass.
     fn ride(&mut self, leader: &Self, frame: &Frame, levels: &[Level])
     where
         Self: Sized,

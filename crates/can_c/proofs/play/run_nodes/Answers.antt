@@ -79,5 +79,7 @@ returns-clause-network c =
       whole = run.ensures.network_whole course call;
       tally = run.ensures.network_tally course call;
       active = run.ensures.network_active course call;
+      counts = run.ensures.network_counts course call;
+      rests = λ over. (run.ensures.network_rests course call over).ports;
       missed = run.ensures.network_missed course call;
     }))
