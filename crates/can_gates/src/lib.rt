@@ -41,6 +41,7 @@ mod chains;
 mod choices;
 mod circuit;
 mod files;
+mod lack;
 mod literal;
 mod orders;
 mod register;
@@ -54,6 +55,7 @@ pub use files::{
     gates_are_read_back, lines_are_read_back, modules_are_read_back, statements_are_read_back,
     symbols_are_read_back, verilog_file,
 };
+pub use lack::{CircuitFault, Lack};
 pub use literal::{FALSE, Literal, TRUE};
 pub use register::Register;
 pub use words::{constant, literal_at};

@@ -11,7 +11,7 @@ loop-place-preserved g c =
     let within : l.place < length l.all = omega (arith, c.loop-place-test.true, l.auto.place-end, l.invariant.0) in (
       length-set l.all l.place c.opposite.result ∙ l.invariant.0,
       λ v zero_is.
-          rw (add-one l.place) (complement_place v zero_is (take l.place l.all) (take (suc l.place) (set l.all l.place c.opposite.result)) word (get_or word l.place never) c.opposite.result l.place (set_place l.all l.place c.opposite.result within) (taken l.all l.place within) refl (c.opposite.ensures v) (l.invariant.1 v zero_is)),
+          rw (add-one l.place) (complement_place v zero_is (take l.place l.all) (take (suc l.place) (set l.all l.place c.opposite.result)) word (get_or word l.place never) c.opposite.result l.place (set_place l.all l.place c.opposite.result within) (taken l.all l.place within) refl (c.opposite.ensures.value v) (l.invariant.1 v zero_is)),
     )
 
 pub returns-clause-places : goal.returns-clause-places

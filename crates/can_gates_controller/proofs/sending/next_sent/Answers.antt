@@ -9,9 +9,9 @@ use Rattle.can_gates_controller.proofs.sending.next_sent.Goals as goal
 
 pub returns : goal.returns
 returns c = (
-  c.ite.ensures.0 ∙ c.less-of_head.ensures.0 ∙ c.lowered-before.ensures.number.0 ∙ c.frame_length-length.ensures.0 ∙ c.select-level.ensures.0,
+  c.ite.ensures.made.0 ∙ c.less-of_head.ensures.0 ∙ c.lowered-before.ensures.number.0 ∙ c.frame_length-length.ensures.0 ∙ c.select-level.ensures.0,
   λ v keeps.
-      let made = c.ite.ensures.1 v keeps in
+      let made = c.ite.ensures.made.1 v keeps in
       let of_head = c.less-of_head.ensures.1 v made.0 in
       let before = c.lowered-before.ensures.number.1 v of_head.0 in
       let long = c.frame_length-length.ensures.1 v before.0 in

@@ -14,11 +14,11 @@ loop-place-preserved g c =
     let within : l.place < length l.word = omega (arith, c.loop-place-test.true, l.auto.place-end, l.invariant.0) in (
       length-set l.word l.place c.xor.result ∙ l.invariant.0,
       (
-        c.ite-over.ensures.0 ∙ c.xor.ensures.0 ∙ c.xor-differ.ensures.0 ∙ l.invariant.1.0,
+        c.ite-over.ensures.made.0 ∙ c.xor.ensures.made.0 ∙ c.xor-differ.ensures.made.0 ∙ l.invariant.1.0,
         λ v keeps.
-            let carry = c.ite-over.ensures.1 v keeps in
-            let level = c.xor.ensures.1 v carry.0 in
-            let differs = c.xor-differ.ensures.1 v level.0 in
+            let carry = c.ite-over.ensures.made.1 v keeps in
+            let level = c.xor.ensures.made.1 v carry.0 in
+            let differs = c.xor-differ.ensures.made.1 v level.0 in
             let before = l.invariant.1.1 v differs.0 in
             let zero_is = zero-kept v c.args.self.now before.0 in (
               before.0,

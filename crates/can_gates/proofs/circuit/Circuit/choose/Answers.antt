@@ -13,9 +13,9 @@ loop-place-preserved g c =
     let within : l.place < length l.all = omega (arith, c.loop-place-test.true, l.auto.place-end, l.invariant.0) in (
       length-set l.all l.place c.ite.result ∙ l.invariant.0,
       (
-        c.ite.ensures.0 ∙ l.invariant.1.0,
+        c.ite.ensures.made.0 ∙ l.invariant.1.0,
         λ v keeps.
-            let level = c.ite.ensures.1 v keeps in
+            let level = c.ite.ensures.made.1 v keeps in
             let before = l.invariant.1.1 v level.0 in
             let zero_is = zero-kept v c.args.self.now before.0 in (
               before.0,

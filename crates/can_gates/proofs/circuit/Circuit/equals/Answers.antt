@@ -12,15 +12,15 @@ loop-place-preserved c =
     let l = c.loop-place in
     let a = c.args.a.now in
     let b = c.args.b.now in (
-      c.and-equal.ensures.0 ∙ c.xor-differ.ensures.0 ∙ l.invariant.0,
+      c.and-equal.ensures.made.0 ∙ c.xor-differ.ensures.made.0 ∙ l.invariant.0,
       λ v keeps.
-          let equal = c.and-equal.ensures.1 v keeps in
-          let differs = c.xor-differ.ensures.1 v equal.0 in
+          let equal = c.and-equal.ensures.made.1 v keeps in
+          let differs = c.xor-differ.ensures.made.1 v equal.0 in
           let before = l.invariant.1 v differs.0 in
           let zero_is = zero-kept v c.args.self.now before.0 in (
             before.0,
             rw (add-one l.place)
-                (equal_place v zero_is a b c.literal_at-left.result c.literal_at-right.result c.xor-differ.result l.equal c.and-equal.result l.place c.literal_at-left.ensures c.literal_at-right.ensures differs.1 (rw (c.opposite.ensures v) at equal.1) before.1),
+                (equal_place v zero_is a b c.literal_at-left.result c.literal_at-right.result c.xor-differ.result l.equal c.and-equal.result l.place c.literal_at-left.ensures c.literal_at-right.ensures differs.1 (rw (c.opposite.ensures.value v) at equal.1) before.1),
           ),
     )
 

@@ -12,10 +12,10 @@ loop-place-preserved c =
     let l = c.loop-place in
     let a = c.args.a.now in
     let b = c.args.b.now in (
-      c.ite-less.ensures.0 ∙ c.xor-differ.ensures.0 ∙ l.invariant.0,
+      c.ite-less.ensures.made.0 ∙ c.xor-differ.ensures.made.0 ∙ l.invariant.0,
       λ v keeps.
-          let less = c.ite-less.ensures.1 v keeps in
-          let differs = c.xor-differ.ensures.1 v less.0 in
+          let less = c.ite-less.ensures.made.1 v keeps in
+          let differs = c.xor-differ.ensures.made.1 v less.0 in
           let before = l.invariant.1 v differs.0 in
           let zero_is = zero-kept v c.args.self.now before.0 in
           (before.0, rw (add-one l.place) (less_place v zero_is a b c.literal_at-left.result c.literal_at-right.result c.xor-differ.result l.less c.ite-less.result l.place c.literal_at-left.ensures c.literal_at-right.ensures differs.1 less.1 before.1)),

@@ -10,9 +10,9 @@ loop-place-preserved g c =
     let within : l.place < length l.all = omega (arith, c.loop-place-test.true, l.auto.place-end, l.invariant.0) in (
       length-set l.all l.place c.or.result ∙ l.invariant.0,
       (
-        c.or.ensures.0 ∙ l.invariant.1.0,
+        c.or.ensures.made.0 ∙ l.invariant.1.0,
         λ v keeps.
-            let level = c.or.ensures.1 v keeps in
+            let level = c.or.ensures.made.1 v keeps in
             let before = l.invariant.1.1 v level.0 in
             let zero_is = zero-kept v c.args.self.now before.0 in
             (before.0, rw (add-one l.place) (or_place v zero_is (take l.place l.all) (take (suc l.place) (set l.all l.place c.or.result)) c.args.word.now c.or.result c.args.over l.place (set_place l.all l.place c.or.result within) (taken l.all l.place within) level.1 before.1)),
