@@ -3,22 +3,27 @@ ghost use Rattle.std.specs.Prelude.{◌≡◌};
 ghost use Rattle.can_gates.specs.declared.lack.CircuitFault.TheVariants.{Memory};
 
 use std::alloc::AllocError;
+use thiserror::Error;
 
 /// Why a circuit lacks a gate that was asked for.
-#[derive(Clone, Copy, Debug, PartialEq, Eq)]
+#[derive(Clone, Copy, Debug, PartialEq, Eq, Error)]
 pub enum Lack {
     /// It was full: it had as many gates as it has room for.
+    #[error("the circuit is full")]
     Room,
     /// One of the gate's sides was of a signal that it doesn't have.
+    #[error("no such signal")]
     Signal,
 }
 
-/// Why no file of a circuit is written.
-#[derive(Clone, Copy, Debug, PartialEq, Eq)]
+/// Why a circuit isn't handed out, or no file of it is written.
+#[derive(Clone, Copy, Debug, PartialEq, Eq, Error)]
 pub enum CircuitFault {
     /// Memory was refused.
+    #[error("out of memory")]
     Memory,
     /// The circuit lacks a gate, for this reason.
+    #[error("a gate is missing: {0}")]
     Incomplete(Lack),
 }
 

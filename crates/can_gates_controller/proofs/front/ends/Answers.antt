@@ -6,11 +6,11 @@ use Rattle.can_gates_controller.proofs.front.ends.Goals as goal
 
 pub returns : goal.returns
 returns c = (
-  c.and.ensures.made.0 ∙ c.and-due.ensures.made.0 ∙ c.equals-whole.ensures.0 ∙ c.frame_length-length.ensures.0,
+  c.and.ensures.made.0 ∙ c.and-due.ensures.made.0 ∙ c.equals-whole.ensures.made.0 ∙ c.frame_length-length.ensures.0,
   λ v keeps.
       let made = c.and.ensures.made.1 v keeps in
       let due = c.and-due.ensures.made.1 v made.0 in
-      let whole = c.equals-whole.ensures.1 v due.0 in
+      let whole = c.equals-whole.ensures.made.1 v due.0 in
       let length = c.frame_length-length.ensures.1 v whole.0 in (
         length.0,
         λ front held few.

@@ -7,9 +7,9 @@ use Rattle.can_gates_controller.proofs.legal.marks_are_legal.Goals as goal
 pub returns : goal.returns
 unfolding nibble
 returns c = (
-  c.select.ensures.0 ∙ c.and-none.ensures.made.0 ∙ c.and-no_flag.ensures.made.0,
+  c.select.ensures.made.0 ∙ c.and-none.ensures.made.0 ∙ c.and-no_flag.ensures.made.0,
   λ v keeps.
-      let made = c.select.ensures.1 v keeps in
+      let made = c.select.ensures.made.1 v keeps in
       let none = c.and-none.ensures.made.1 v made.0 in
       let no_flag = c.and-no_flag.ensures.made.1 v none.0 in
       let is_no_flag = no_flag.1 ∙ rw (c.opposite.ensures.value v, c.opposite-2.ensures.value v) refl in

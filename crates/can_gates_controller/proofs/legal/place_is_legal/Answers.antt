@@ -6,9 +6,9 @@ use Rattle.can_gates_controller.proofs.legal.place_is_legal.Goals as goal
 pub returns : goal.returns
 unfolding nibble
 returns c = (
-  c.select.ensures.0 ∙ c.and-later.ensures.made.0 ∙ c.less-below_11.ensures.0 ∙ c.less-below_8.ensures.0 ∙ c.less-below_7.ensures.0 ∙ c.less-below_6.ensures.0 ∙ c.less-below_3.ensures.0 ∙ c.less-first.ensures.0,
+  c.select.ensures.made.0 ∙ c.and-later.ensures.made.0 ∙ c.less-below_11.ensures.0 ∙ c.less-below_8.ensures.0 ∙ c.less-below_7.ensures.0 ∙ c.less-below_6.ensures.0 ∙ c.less-below_3.ensures.0 ∙ c.less-first.ensures.0,
   λ v keeps.
-      let made = c.select.ensures.1 v keeps in
+      let made = c.select.ensures.made.1 v keeps in
       let later = c.and-later.ensures.made.1 v made.0 in
       let below_11 = c.less-below_11.ensures.1 v later.0 in
       let below_8 = c.less-below_8.ensures.1 v below_11.0 in

@@ -8,9 +8,9 @@ use Rattle.can_gates_controller.proofs.legal.role_is_legal.Goals as goal
 pub returns : goal.returns
 unfolding nibble
 returns c = (
-  c.select.ensures.0 ∙ c.or-first.ensures.made.0 ∙ c.less-start.ensures.0,
+  c.select.ensures.made.0 ∙ c.or-first.ensures.made.0 ∙ c.less-start.ensures.0,
   λ v keeps.
-      let made = c.select.ensures.1 v keeps in
+      let made = c.select.ensures.made.1 v keeps in
       let first = c.or-first.ensures.made.1 v made.0 in
       let start = c.less-start.ensures.1 v first.0 in
       let zero_is = zero-kept v c.args.circuit.now start.0 in

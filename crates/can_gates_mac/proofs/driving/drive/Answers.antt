@@ -8,9 +8,9 @@ use Rattle.can_gates_mac.proofs.driving.drive.Goals as goal
 pub returns : goal.returns
 unfolding nibble mac_drives
 returns c = (
-  c.select.ensures.0 ∙ c.or-of_slot.ensures.made.0 ∙ c.or-of_part.ensures.made.0 ∙ c.ite-of_sender.ensures.made.0,
+  c.select.ensures.made.0 ∙ c.or-of_slot.ensures.made.0 ∙ c.or-of_part.ensures.made.0 ∙ c.ite-of_sender.ensures.made.0,
   λ v keeps.
-      let made = c.select.ensures.1 v keeps in
+      let made = c.select.ensures.made.1 v keeps in
       let of_slot = c.or-of_slot.ensures.made.1 v made.0 in
       let of_part = c.or-of_part.ensures.made.1 v of_slot.0 in
       let of_sender = c.ite-of_sender.ensures.made.1 v of_part.0 in

@@ -1,4 +1,4 @@
-use Rattle.std.proofs.Common.{refl, inl, inr, max, ◌≡◌, ◌≤◌, ◌⊎◌, ◌∙◌, ap, arith, Some, subst, sym, Option}
+use Rattle.std.proofs.Common.{refl, inr, max, ◌≡◌, ◌⊎◌, ◌∙◌, ap, arith, Some, subst, sym, Option}
 use Rattle.can_gates.specs.declared.lack.Lack.{Lack}
 use Rattle.can_gates.specs.declared.lack.Lack.TheVariants.{Room}
 use Rattle.can_gates.specs.Lacking.{lack_with}

@@ -1,4 +1,4 @@
-use Rattle.std.proofs.Common.{refl, inl, ◌≤◌, ◌∙◌, arith}
+use Rattle.std.proofs.Common.{refl, ◌≤◌, ◌∙◌, arith}
 use Rattle.can_gates.specs.Circuit.{value}
 use Rattle.can_gates.proofs.Bools.{choice_of_or, choice_of_one}
 use Rattle.can_gates.proofs.Lacks.{lack_then}

@@ -1,4 +1,4 @@
-use Rattle.std.proofs.Common.{◌<◌, ◌≤◌, length, reverse, subst, sym, arith}
+use Rattle.std.proofs.Common.{◌<◌, ◌≤◌, length, subst, sym, arith}
 use Rattle.can_gates.specs.Circuit.{CircuitParts, value, Keeps}
 use Rattle.can_gates.proofs.KeptGates.{kept_gate, ordered_gate, shared_gate}
 use Rattle.can_gates.proofs.circuit.Circuit.made_at.Goals as goal

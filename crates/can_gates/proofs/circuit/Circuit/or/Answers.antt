@@ -1,4 +1,3 @@
-use Rattle.std.proofs.Common.{max}
 use Rattle.can_gates.specs.Circuit.{value}
 use Rattle.can_gates.proofs.Bools.{or_of_and}
 use Rattle.can_gates.proofs.circuit.Circuit.or.Goals as goal
