@@ -4,7 +4,9 @@ ghost use Rattle.cangates.specs.Files.{IsFile, text_in};
 
 use crate::names::names;
 use crate::words::Form;
-use can_gates::{Circuit, CircuitFault, Literal, Names, Register, ascii_file, binary_file, verilog_file};
+use can_gates::{
+    Circuit, CircuitFault, Literal, Names, Register, ascii_file, binary_file, verilog_file,
+};
 use can_gates_controller::controller_circuit;
 use std::alloc::Global;
 
