@@ -12,7 +12,7 @@ by_room (Some lack) unknown room has = inl refl
 by_room None unknown true has = inl (rw has refl)
 by_room None unknown false has = inr (rw has refl)
 
--- a gate of signals that the circuit has is lacking only where it lacked one before, or is full
+-- after a gate of signals that the circuit has it lacks what it did before, or is full
 pub known_lack : (c : CircuitParts) (signal : ℕ) → signal ≤ c.highest → (lack_with c signal ≡ c.lack) ⊎ (lack_with c signal ≡ Some Room)
 known_lack c signal has = by_room c.lack (nat_lt c.highest signal) (nat_lt (length c.gates) c.room) (le-ltb c.highest signal has)
 
@@ -69,7 +69,7 @@ has_drop c (suc n) (x ∷ l) has = has_drop c n l has.1
 pub serves_none : (c : CircuitParts) (given made : List Literal) → (HasSignals c given → HasSignals c made) → Serves c c given made
 serves_none c given made has = λ h. (omega arith, has h, inl refl)
 
--- the second call is given what is given, or made by then; all is of what is given or made
+-- a second call takes literals that were given or made before it
 pub serves_then : (x y z : CircuitParts) (given made used new all : List Literal) → Serves x y given made → (HasSignals y given → HasSignals y made → HasSignals y used) → Serves y z used new → (HasSignals z given → HasSignals z made → HasSignals z new → HasSignals z all) → Serves x z given all
 serves_then x y z given made used new all first taken second is = λ h.
     let one = first h in

@@ -8,7 +8,7 @@ use Rattle.can_gates.specs.declared.circuit.Gate.{Gate}
 use Rattle.can_gates.specs.declared.lack.Lack.{Lack}
 
 -- a circuit: so many signals from 1 on are its inputs, it has room for so many gates, this is its highest signal, and these are
--- its gates, the last first. It lacks a gate that was asked for, for this reason, or has each
+-- its gates, the last first. If it lacks a gate that was asked for, this is why
 pub record CircuitParts : Type 0 where
   pub inputs : ℕ
   pub room : ℕ
@@ -39,7 +39,7 @@ KeepsGates v (g ∷ gates) = (v g.signal ≡ (value v g.left && value v g.right)
 abbrev pub Keeps : (ℕ → Bool) → CircuitParts → Type 0
 Keeps v c = (c.lack ≡ None) × KeepsGates v c.gates
 
--- what stays as it is: how many inputs there are, and the room
+-- what no call changes: how many inputs there are, and the room
 abbrev pub frame : CircuitParts → ℕ × ℕ
 frame c = (c.inputs, c.room)
 

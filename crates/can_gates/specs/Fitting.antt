@@ -1,4 +1,5 @@
--- What is so of a circuit's own fields: its gates are in order, and there are memory and numbers for as many as it has room for.
+-- What is always true of a circuit's own fields: its gates are in order, and it has memory and numbers for all the gates that
+-- it has room for.
 use Rattle.std.specs.Prelude.{ℕ, ◌≡◌, ◌+◌, ◌<◌, ◌≤◌, ◌^◌, List, length, reverse, Option, Some}
 use Rattle.can_gates.specs.declared.circuit.Gate.{Gate}
 use Rattle.can_gates.specs.declared.lack.Lack.{Lack}

@@ -24,11 +24,10 @@ pub struct Gate {
     pub right: Literal,
 }
 
-/// And gates behind inputs, with room for so many. In clauses the last gate goes first.
+/// AND gates after inputs, with room for a number of gates. In clauses the last gate comes first.
 ///
-/// A gate isn't made where there is no [room](Lack::Room) for it, or where a side is of a [signal](Lack::Signal) that the
-/// circuit doesn't have. Then the circuit isn't [complete](Circuit::is_complete) from there on: no assignment keeps it, and
-/// it stays as it is.
+/// A gate isn't made if there is no [room](Lack::Room) for it, or if one of its sides is of a [signal](Lack::Signal) that the
+/// circuit doesn't have. Then the circuit isn't [complete](Circuit::is_complete) from then on: no assignment keeps it.
 #[derive(Drop)]
 pub struct Circuit {
     gates: Vec<Gate>,
@@ -57,8 +56,8 @@ impl Model for Circuit {
 }
 
 impl Circuit {
-    /// A circuit with no gate, with so many inputs, which are the signals from 1 on, and with room for so many gates, or as
-    /// many as there are numbers left for, of 2^32. It alone takes memory.
+    /// A circuit with no gate. Its inputs are the first signals, from 1 on. It has room for this number of gates, or for as many
+    /// as there are numbers left, of 2^32. Only this call takes memory.
     pub fn new(alloc: Global, inputs: u32, room: u32) -> Result<Circuit, AllocError>
         ensures { IfOk result (λ c. c ≡ record { inputs = inputs; room = min room (4294967295 - inputs); highest = inputs; gates = []; lack = None }) }
     {
@@ -94,14 +93,14 @@ impl Circuit {
         self.highest
     }
 
-    /// For how many gates there is room, those that it has among them.
+    /// For how many gates it has room, counting those that it has.
     pub fn room(&self) -> u32
         ensures { result ≡ self.now.room }
     {
         self.room
     }
 
-    /// Why it lacks a gate that was asked for, if it does: it is full, or a signal was asked for that it doesn't have.
+    /// Why it lacks a gate that was asked for, if it does: it is full, or it was given a signal that it doesn't have.
     pub fn lack(&self) -> Option<Lack>
         ensures lack { result ≡ self.now.lack }
         ensures full { result ≡ Some Room → length self.now.gates ≡ self.now.room }
@@ -138,7 +137,8 @@ impl Circuit {
     }
 
     /// Both. It needs no gate where one is constant, where both are of one signal, or where there is a gate of these two.
-    /// Else it makes one, or the circuit isn't complete from then on, if it is full or doesn't have one of the two signals.
+    /// Otherwise it makes one, unless the circuit is full or doesn't have one of the two signals: then the circuit isn't complete
+    /// from then on.
     pub fn and(&mut self, a: Literal, b: Literal) -> Literal
         ensures made { Makes self.old self.new (λ v. value v result ≡ (value v a && value v b)) }
         ensures lack { (self.new.lack ≡ self.old.lack) ⊎ (self.new.lack ≡ lack_with self.old (max a.signal b.signal)) }
@@ -199,7 +199,7 @@ impl Circuit {
         self.added(sides)
     }
 
-    /// Why it can't have a gate more, of literals of which this is the higher signal, if it can't.
+    /// Why it can't have one gate more, if it can't. This is the higher one of the signals of the gate's sides.
     fn lack_of(&self, signal: u32) -> Option<Lack>
         ensures { result ≡ lack_with self.now signal }
     {

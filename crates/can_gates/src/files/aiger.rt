@@ -29,8 +29,8 @@ use std::alloc::Global;
 const MORE_GROUPS: u32 = 9;
 
 /// An AIGER file in the ascii format: a circuit whose last inputs are what these registers hold, in their order, its names, and
-/// their meaning in a comment. It refuses a circuit that lacks a gate, and tells why it does; [`CircuitFault::Memory`] is told of a
-/// complete one alone.
+/// their meaning in a comment. It refuses a circuit that lacks a gate with the reason that the circuit has, and a
+/// complete one only if memory was refused.
 pub fn ascii_file(
     alloc: Global,
     names: &Names<'_>,

@@ -24,7 +24,7 @@ use std::alloc::Global;
 
 /// A module: a circuit whose last inputs are what these registers hold, in their order. What comes in behind its
 /// clock, and what the registers hold, has these names in the order of the circuit's inputs. It refuses a circuit
-/// that lacks a gate, and tells why it does; [`CircuitFault::Memory`] is told of a complete one alone.
+/// that lacks a gate with the reason that the circuit has, and a complete one only if memory was refused.
 pub fn verilog_file(
     alloc: Global,
     names: &Names<'_>,
