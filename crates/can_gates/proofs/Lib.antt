@@ -7,6 +7,7 @@ pub mod Tested
 -- For this crate
 pub mod KeptGates
 pub mod Running
+pub mod Lacks
 pub mod WordPlaces
 pub mod SumPlaces
 pub mod OrderPlaces

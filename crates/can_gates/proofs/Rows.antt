@@ -1,10 +1,12 @@
 -- The definitions computed on a half adder that was worked out by hand: its inputs are signals 1 and 2, signal 3 is its carry, and
 -- its sum is where signal 6 is false.
-use Rattle.std.proofs.Common.{◌≡◌, ℕ, Bool, true, false, not, cond, eqb, List, [], ◌∷◌, codes, refl}
+use Rattle.std.proofs.Common.{◌≡◌, ℕ, Bool, true, false, not, cond, eqb, List, [], ◌∷◌, Some, None, codes, refl}
 use Rattle.std.proofs.lemmas.Bool.{true≢false}
 use Rattle.can_gates.specs.declared.literal.Literal.{Literal}
 use Rattle.can_gates.specs.declared.circuit.Gate.{Gate}
-use Rattle.can_gates.specs.Circuit.{value, KeepsGates}
+use Rattle.can_gates.specs.declared.lack.Lack.TheVariants.{Room, Signal}
+use Rattle.can_gates.specs.Circuit.{CircuitParts, value, KeepsGates}
+use Rattle.can_gates.specs.Lacking.{lack_with}
 use Rattle.can_gates.specs.Words.{number}
 use Rattle.can_gates.specs.Runs.{run}
 use Rattle.can_gates.specs.Aiger.{file_lines, register_lines, numbers_in}
@@ -63,8 +65,22 @@ number_of_constants : number (inputs true true) (turned 0 ∷ plain 0 ∷ []) �
 unfolding value
 number_of_constants = refl
 
+-- the half adder in a circuit with room for so many gates
+abbrev in_room : ℕ → CircuitParts
+in_room room = record { inputs = 2; room = room; highest = 6; gates = half_adder; lack = None }
+
+-- its four gates fill a room of four; in a larger one a gate of its signals has its place, and one of signal 7 has not
+full_of_four : lack_with (in_room 4) 6 ≡ Some Room
+full_of_four = refl
+
+room_for_one : lack_with (in_room 5) 6 ≡ None
+room_for_one = refl
+
+no_signal_of_seven : lack_with (in_room 5) 7 ≡ Some Signal
+no_signal_of_seven = refl
+
 -- the lines of its text: the carry and the sum are its outputs
-half_adder_lines : file_lines (record { inputs = 2; highest = 6; gates = half_adder; complete = true }) [] (plain 3 ∷ turned 6 ∷ [])
+half_adder_lines : file_lines (in_room 4) [] (plain 3 ∷ turned 6 ∷ [])
     ≡ (6 ∷ 2 ∷ 0 ∷ 2 ∷ 4 ∷ []) ∷ (2 ∷ []) ∷ (4 ∷ []) ∷ (6 ∷ []) ∷ (13 ∷ []) ∷ (6 ∷ 4 ∷ 2 ∷ []) ∷ (8 ∷ 5 ∷ 2 ∷ []) ∷ (10 ∷ 4 ∷ 3 ∷ []) ∷ (12 ∷ 11 ∷ 9 ∷ []) ∷ []
 half_adder_lines = refl
 

@@ -64,3 +64,8 @@ filled p n true true h = omega (arith, h)
 pub or_place : (v : ℕ → Bool) → v 0 ≡ false → (all more word : List Literal) (level over : Literal) (i : ℕ) → more ≡ all ++ level ∷ [] → length all ≡ i → value v level ≡ (value v (get_or word i never) || value v over) → number v all ≡ cond (value v over) (2 ^ i - 1) (number v (take i word)) → number v more ≡ cond (value v over) (2 ^ suc i - 1) (number v (take (suc i) word))
 or_place v zero_is all more word level over i e long is so_far =
     rw (e, number-push v all level, long, is, number-take v zero_is word i, so_far, pow-suc 2 i) (filled (2 ^ i) (number v (take i word)) (value v (get_or word i never)) (value v over) (omega (arith, pow_pos i)))
+
+-- no place yet, of whichever word
+pub zero_either : (test : Bool) → let zero : ℕ = 0 in zero ≡ cond test zero zero
+zero_either true = refl
+zero_either false = refl

@@ -1,5 +1,6 @@
 -- To believe: what public calls and laws promise is said in these words
 pub mod Circuit
+pub mod Lacking
 pub mod Words
 pub mod Runs
 pub mod Aiger
@@ -15,3 +16,4 @@ pub mod Module
 pub mod Files
 -- For private calls
 pub mod Texts
+pub mod Fitting

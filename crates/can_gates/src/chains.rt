@@ -2,6 +2,7 @@
 use std::alloc::{AllocError, Global};
 
 /// The gates of each left side's signal, the last first. No clause says what it tells: a circuit looks at the gate.
+/// Its memory is taken at once.
 #[derive(Drop)]
 pub(crate) struct Chains {
     /// Of each signal, how many gates there are up to the last one with it, or 0.
@@ -11,11 +12,12 @@ pub(crate) struct Chains {
 }
 
 impl Chains {
-    pub(crate) fn new(alloc: Global) -> Chains {
-        Chains {
-            last: Vec::new(alloc),
-            before: Vec::new(alloc),
-        }
+    /// With room for so many gates, of signals up to this one.
+    pub(crate) fn new(alloc: Global, highest: u32, room: u32) -> Result<Chains, AllocError> {
+        Ok(Chains {
+            last: Vec::with_capacity(alloc, highest as usize + 1)?,
+            before: Vec::with_capacity(alloc, room as usize)?,
+        })
     }
 
     /// The place of the last gate whose left side is of this signal.
@@ -30,18 +32,17 @@ impl Chains {
         count.checked_sub(1)
     }
 
-    /// Adds the next gate, whose left side is of this signal.
-    pub(crate) fn add(&mut self, signal: u32) -> Result<(), AllocError> {
+    /// Adds the next gate, whose left side is of this signal. There is room, so that no memory is taken.
+    pub(crate) fn add(&mut self, signal: u32) {
         let signal = signal as usize;
         for _ in self.last.len()..signal + 1 {
-            self.last.push(0)?;
+            let _ = self.last.push(0);
         }
         let before = self.last.get(signal).copied().unwrap_or(0);
-        self.before.push(before)?;
+        let _ = self.before.push(before);
         let count = self.before.len();
         if let Some(last) = self.last.get_mut(signal) {
             *last = count;
         }
-        Ok(())
     }
 }

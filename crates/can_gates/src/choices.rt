@@ -1,6 +1,7 @@
 //! Or, exclusive or, and a choice between two literals.
-ghost use Rattle.std.specs.Prelude.{◌≡◌, ◌&&◌, ◌||◌, ℕ, Bool, if◌then◌else◌};
+ghost use Rattle.std.specs.Prelude.{◌≡◌, ◌&&◌, ◌||◌, ◌⊎◌, [], ◌∷◌, ℕ, Bool, max, if◌then◌else◌};
 ghost use Rattle.can_gates.specs.Circuit.{value, Makes, differ};
+ghost use Rattle.can_gates.specs.Lacking.{Serves, lack_with};
 
 use crate::circuit::Circuit;
 use crate::literal::Literal;
@@ -8,7 +9,9 @@ use crate::literal::Literal;
 impl Circuit {
     /// One of the two, or both.
     pub fn or(&mut self, a: Literal, b: Literal) -> Literal
-        ensures { Makes self.old self.new (λ v. value v result ≡ (value v a || value v b)) }
+        ensures made { Makes self.old self.new (λ v. value v result ≡ (value v a || value v b)) }
+        ensures lack { (self.new.lack ≡ self.old.lack) ⊎ (self.new.lack ≡ lack_with self.old (max a.signal b.signal)) }
+        ensures serves { Serves self.old self.new (a ∷ b ∷ []) (result ∷ []) }
     {
         let neither = self.and(a.opposite(), b.opposite());
         neither.opposite()
@@ -16,7 +19,8 @@ impl Circuit {
 
     /// The one literal where the test holds, else the other one.
     pub fn ite(&mut self, test: Literal, a: Literal, b: Literal) -> Literal
-        ensures { Makes self.old self.new (λ v. value v result ≡ (if value v test then value v a else value v b)) }
+        ensures made { Makes self.old self.new (λ v. value v result ≡ (if value v test then value v a else value v b)) }
+        ensures serves { Serves self.old self.new (test ∷ a ∷ b ∷ []) (result ∷ []) }
     {
         if a.is_same(b) {
             return a;
@@ -28,7 +32,8 @@ impl Circuit {
 
     /// One of the two, and not both.
     pub fn xor(&mut self, a: Literal, b: Literal) -> Literal
-        ensures { Makes self.old self.new (λ v. value v result ≡ differ (value v a) (value v b)) }
+        ensures made { Makes self.old self.new (λ v. value v result ≡ differ (value v a) (value v b)) }
+        ensures serves { Serves self.old self.new (a ∷ b ∷ []) (result ∷ []) }
     {
         self.ite(a, b.opposite(), b)
     }

@@ -1,13 +1,16 @@
 //! Circuits, and the and of two literals.
-ghost use Rattle.std.specs.Prelude.{◌≡◌, ◌≤◌, ◌<◌, ◌^◌, ◌&&◌, [], ℕ, Bool, true, false, IfSome, reverse};
+ghost use Rattle.std.specs.Prelude.{◌≡◌, ◌≤◌, ◌<◌, ◌-◌, ◌^◌, ◌&&◌, ◌⊎◌, [], ◌∷◌, ℕ, Bool, false, None, Some, IfOk, IfSome, is_none, length, min, max, reverse};
 ghost use Rattle.can_gates.specs.Aiger.{literal_code};
 ghost use Rattle.can_gates.specs.Circuit.{value, Keeps, Makes};
+ghost use Rattle.can_gates.specs.Lacking.{HasSignals, Serves, lack_with};
+ghost use Rattle.can_gates.specs.declared.lack.Lack.TheVariants.{Room};
 ghost use Rattle.can_gates.specs.Ordered.{IsOrdered};
 ghost use Rattle.can_gates.specs.Runs.{run};
 
 use crate::chains::Chains;
+use crate::lack::Lack;
 use crate::literal::{FALSE, Literal, folded};
-use std::alloc::Global;
+use std::alloc::{AllocError, Global};
 use std::marker::Model;
 
 /// A gate: its signal is the and of two literals.
@@ -21,48 +24,52 @@ pub struct Gate {
     pub right: Literal,
 }
 
-/// And gates behind inputs. In clauses the last gate goes first.
+/// AND gates after inputs, with room for a number of gates. In clauses the last gate comes first.
 ///
-/// A gate isn't made where there is no memory for it, where the numbers of signals have run out, 2^32, or where a side is of a
-/// signal that the circuit doesn't have. Then the circuit isn't [complete](Circuit::is_complete) from there on: no assignment
-/// keeps it.
+/// A gate isn't made if there is no [room](Lack::Room) for it, or if one of its sides is of a [signal](Lack::Signal) that the
+/// circuit doesn't have. Then the circuit isn't [complete](Circuit::is_complete) from then on: no assignment keeps it.
 #[derive(Drop)]
 pub struct Circuit {
     gates: Vec<Gate>,
     /// How many signals from 1 on are inputs.
     inputs: u32,
+    /// For how many gates there are memory and numbers.
+    room: u32,
     /// The highest signal.
     highest: u32,
     /// Where the gates of a left side stand.
     chains: Chains,
-    /// Whether it has each gate that was asked for.
-    complete: bool,
+    /// Why it lacks a gate that was asked for, if it does.
+    lack: Option<Lack>,
 }
 
 impl Model for Circuit {
-    ghost use Rattle.std.specs.Prelude.{reverse};
+    ghost use Rattle.std.specs.Prelude.{reverse, vec_capacity};
     ghost use Rattle.can_gates.specs.Circuit.{CircuitParts};
-    ghost use Rattle.can_gates.specs.Ordered.{IsOrdered};
+    ghost use Rattle.can_gates.specs.Fitting.{Fits};
 
     ghost Value = { CircuitParts };
 
-    ghost view = { λ c. record { inputs = c.inputs; highest = c.highest; gates = reverse c.gates.items; complete = c.complete } };
+    ghost view = { λ c. record { inputs = c.inputs; room = c.room; highest = c.highest; gates = reverse c.gates.items; lack = c.lack } };
 
-    ghost invariant = { λ c. IsOrdered c.inputs c.highest (reverse c.gates.items) };
+    ghost invariant = { λ c. Fits c.inputs c.room c.highest c.gates.items (vec_capacity c.gates) c.lack };
 }
 
 impl Circuit {
-    /// A circuit with no gate, and with so many inputs, which are the signals from 1 on.
-    pub fn new(alloc: Global, inputs: u32) -> Circuit
-        ensures { result ≡ record { inputs = inputs; highest = inputs; gates = []; complete = true } }
+    /// A circuit with no gate. Its inputs are the first signals, from 1 on. It has room for this number of gates, or for as many
+    /// as there are numbers left, of 2^32. Only this call takes memory.
+    pub fn new(alloc: Global, inputs: u32, room: u32) -> Result<Circuit, AllocError>
+        ensures { IfOk result (λ c. c ≡ record { inputs = inputs; room = min room (4294967295 - inputs); highest = inputs; gates = []; lack = None }) }
     {
-        Circuit {
-            gates: Vec::new(alloc),
+        let room = room.min(u32::MAX - inputs);
+        Ok(Circuit {
+            gates: Vec::with_capacity(alloc, room as usize)?,
             inputs,
+            room,
             highest: inputs,
-            chains: Chains::new(alloc),
-            complete: true,
-        }
+            chains: Chains::new(alloc, inputs + room, room)?,
+            lack: None,
+        })
     }
 
     /// The gates, each behind those that make its sides.
@@ -86,18 +93,33 @@ impl Circuit {
         self.highest
     }
 
+    /// For how many gates it has room, counting those that it has.
+    pub fn room(&self) -> u32
+        ensures { result ≡ self.now.room }
+    {
+        self.room
+    }
+
+    /// Why it lacks a gate that was asked for, if it does: it is full, or it was given a signal that it doesn't have.
+    pub fn lack(&self) -> Option<Lack>
+        ensures lack { result ≡ self.now.lack }
+        ensures full { result ≡ Some Room → length self.now.gates ≡ self.now.room }
+    {
+        self.lack
+    }
+
     /// Whether it has each gate that was asked for. What is made of one that lacks a gate is to be thrown away.
     pub fn is_complete(&self) -> bool
-        ensures { result ≡ self.now.complete }
+        ensures { result ≡ is_none self.now.lack }
     {
-        self.complete
+        self.lack.is_none()
     }
 
     /// Whatever values its inputs have, the run of a complete circuit is an assignment that keeps it and in which they have
     /// these values: so nothing that is said of kept circuits is empty. And what keeps it is the run of its own values. It
     /// does nothing.
     pub fn is_kept_by_its_run(&self)
-        ensures keeps { (inputs : ℕ → Bool) → self.now.complete ≡ true → inputs 0 ≡ false → Keeps (run self.now.gates inputs) self.now }
+        ensures keeps { (inputs : ℕ → Bool) → self.now.lack ≡ None → inputs 0 ≡ false → Keeps (run self.now.gates inputs) self.now }
         ensures inputs { (inputs : ℕ → Bool) (s : ℕ) → s ≤ self.now.inputs → run self.now.gates inputs s ≡ inputs s }
         ensures only { (v : ℕ → Bool) (s : ℕ) → Keeps v self.now → run self.now.gates v s ≡ v s }
     {
@@ -115,9 +137,12 @@ impl Circuit {
     }
 
     /// Both. It needs no gate where one is constant, where both are of one signal, or where there is a gate of these two.
-    /// Else it makes one, or the circuit isn't complete from then on.
+    /// Otherwise it makes one, unless the circuit is full or doesn't have one of the two signals: then the circuit isn't complete
+    /// from then on.
     pub fn and(&mut self, a: Literal, b: Literal) -> Literal
-        ensures { Makes self.old self.new (λ v. value v result ≡ (value v a && value v b)) }
+        ensures made { Makes self.old self.new (λ v. value v result ≡ (value v a && value v b)) }
+        ensures lack { (self.new.lack ≡ self.old.lack) ⊎ (self.new.lack ≡ lack_with self.old (max a.signal b.signal)) }
+        ensures serves { Serves self.old self.new (a ∷ b ∷ []) (result ∷ []) }
     {
         if let Some(known) = folded(a, b) {
             return known;
@@ -131,7 +156,8 @@ impl Circuit {
 
     /// The signal of a gate of these sides, where there is one.
     fn shared(&self, sides: Sides) -> Option<Literal>
-        ensures { IfSome result (λ r. (v : ℕ → Bool) → Keeps v self.now → value v r ≡ (value v sides.left && value v sides.right)) }
+        ensures value { IfSome result (λ r. (v : ℕ → Bool) → Keeps v self.now → value v r ≡ (value v sides.left && value v sides.right)) }
+        ensures signal { IfSome result (λ r. r.signal ≤ self.now.highest) }
     {
         let mut place = self.chains.last(sides.left.signal)?;
         for _ in 0..self.gates.len() {
@@ -145,7 +171,8 @@ impl Circuit {
 
     /// The signal of the gate at this place, where it is of these sides.
     fn made_at(&self, place: usize, sides: Sides) -> Option<Literal>
-        ensures { IfSome result (λ r. (v : ℕ → Bool) → Keeps v self.now → value v r ≡ (value v sides.left && value v sides.right)) }
+        ensures value { IfSome result (λ r. (v : ℕ → Bool) → Keeps v self.now → value v r ≡ (value v sides.left && value v sides.right)) }
+        ensures signal { IfSome result (λ r. r.signal ≤ self.now.highest) }
     {
         if place >= self.gates.len() {
             return None;
@@ -157,46 +184,65 @@ impl Circuit {
         None
     }
 
-    /// A gate more, of these sides, or a circuit that isn't complete.
+    /// A gate more, of these sides, or a circuit that lacks it.
     fn gate(&mut self, sides: Sides) -> Literal
         requires { literal_code sides.right ≤ literal_code sides.left }
-        ensures { Makes self.old self.new (λ v. value v result ≡ (value v sides.left && value v sides.right)) }
+        ensures made { Makes self.old self.new (λ v. value v result ≡ (value v sides.left && value v sides.right)) }
+        ensures lack { self.new.lack ≡ lack_with self.old (max sides.left.signal sides.right.signal) }
+        ensures highest { self.old.highest ≤ self.new.highest }
+        ensures signal { result.signal ≤ self.new.highest }
     {
-        match self.added(sides) {
-            Some(made) => made,
-            None => {
-                self.complete = false;
-                FALSE
-            }
+        if let Some(lack) = self.lack_of(sides.highest()) {
+            self.lack = Some(lack);
+            return FALSE;
         }
+        self.added(sides)
     }
 
-    /// A gate more, of these sides, where these have a number and there is memory and a number for it.
-    fn added(&mut self, sides: Sides) -> Option<Literal>
-        requires { literal_code sides.right ≤ literal_code sides.left }
-        ensures made { IfSome result (λ r. Makes self.old self.new (λ v. value v r ≡ (value v sides.left && value v sides.right))) }
-        ensures inputs { self.new.inputs ≡ self.old.inputs }
+    /// Why it can't have one gate more, if it can't. This is the higher one of the signals of the gate's sides.
+    fn lack_of(&self, signal: u32) -> Option<Lack>
+        ensures { result ≡ lack_with self.now signal }
     {
-        if self.highest < sides.highest() {
-            return None;
+        if self.lack.is_some() {
+            return self.lack;
         }
-        let signal = self.highest.checked_add(1)?;
-        self.chains.add(sides.left.signal).ok()?;
+        if self.highest < signal {
+            return Some(Lack::Signal);
+        }
+        if self.gates.len() >= self.room as usize {
+            return Some(Lack::Room);
+        }
+        None
+    }
+
+    /// A gate more, of these sides.
+    fn added(&mut self, sides: Sides) -> Literal
+        requires order { literal_code sides.right ≤ literal_code sides.left }
+        requires lack { lack_with self.old (max sides.left.signal sides.right.signal) ≡ None }
+        ensures made { Makes self.old self.new (λ v. value v result ≡ (value v sides.left && value v sides.right)) }
+        ensures lack { self.new.lack ≡ None }
+        ensures highest { self.old.highest ≤ self.new.highest }
+        ensures signal { result.signal ≤ self.new.highest }
+    {
+        let signal = self.highest + 1;
         let gate = Gate {
             signal,
             left: sides.left,
             right: sides.right,
         };
-        self.gates.push(gate).ok()?;
+        // There is room, so that no memory is taken.
+        let _ = self.gates.push(gate);
+        self.chains.add(sides.left.signal);
         self.highest = signal;
-        Some(of_signal(signal))
+        of_signal(signal)
     }
 }
 
 /// A signal, not negated.
 #[tactic(auto, unfolding(crate::specs::Circuit::value))]
 fn of_signal(signal: u32) -> Literal
-    ensures { (v : ℕ → Bool) → value v result ≡ v signal }
+    ensures value { (v : ℕ → Bool) → value v result ≡ v signal }
+    ensures signal { result.signal ≡ signal }
 {
     Literal {
         signal,
@@ -216,6 +262,7 @@ impl Sides {
     fn new(a: Literal, b: Literal) -> Sides
         ensures value { (v : ℕ → Bool) → (value v result.left && value v result.right) ≡ (value v a && value v b) }
         ensures order { literal_code result.right ≤ literal_code result.left }
+        ensures signals { max result.left.signal result.right.signal ≡ max a.signal b.signal }
     {
         if a.code() < b.code() {
             Sides { left: b, right: a }
@@ -226,8 +273,7 @@ impl Sides {
 
     /// The higher one of the two signals.
     fn highest(self) -> u32
-        ensures left { self.left.signal ≤ result }
-        ensures right { self.right.signal ≤ result }
+        ensures { result ≡ max self.left.signal self.right.signal }
     {
         self.left.signal.max(self.right.signal)
     }

@@ -6,14 +6,16 @@
 //! makes gates says what holds of its result in each assignment that keeps the circuit with them, as an equation over
 //! Booleans and numbers. Nothing is required of a literal.
 //!
-//! A gate for which there is no memory, or no number, as there are 2^32 of them, or one of a signal that the circuit doesn't
-//! have, is not made, and the circuit isn't complete from then on: no assignment keeps it, and it is refused where it is
-//! written. So a gate is made by a call that can't fail, and [`Circuit::is_complete`] is asked once, behind the last.
+//! A circuit takes its memory when it is made, for a number of gates. A gate isn't made if there is no room for it, or if it is
+//! of a signal that the circuit doesn't have. Then the circuit isn't complete from then on: no assignment keeps it, and the
+//! writers of files refuse it with this reason. So a gate is made by a call that can't fail, and [`Circuit::lack`] is asked
+//! once, after the last. Given signals that the circuit has, each call leaves it complete unless it is full.
 //!
 //! | File | What it has | Defined in |
 //! |---|---|---|
 //! | `literal.rt` | [`Literal`], a signal or its negation, [`FALSE`] and [`TRUE`] | `specs/Circuit.antt` |
-//! | `circuit.rt` | [`Circuit`], its [`Gate`]s, and the and of two literals, which has a gate only where it needs one | `specs/Circuit.antt`, `specs/Runs.antt`, `specs/Ordered.antt` |
+//! | `circuit.rt` | [`Circuit`], its [`Gate`]s, and the and of two literals, which has a gate only where it needs one | `specs/Circuit.antt`, `specs/Runs.antt`, `specs/Ordered.antt`, `specs/Lacking.antt` |
+//! | `lack.rt` | [`Lack`], why a circuit lacks a gate; [`CircuitFault`], why it isn't handed out | `specs/Lacking.antt` |
 //! | `chains.rt` | where gates stand, by the signal of their left side | |
 //! | `choices.rt` | or, exclusive or, and a choice between two literals | `specs/Circuit.antt` |
 //! | `words.rt` | numbers as arrays of literals, the lowest place first: constants and choices | `specs/Words.antt` |
@@ -30,7 +32,7 @@
 //! | `files/symbols.rt` | their names, and [`symbols_are_read_back`] | `specs/Named.antt` |
 //! | `files/pieces.rt` | literals and names as texts | |
 //!
-//! What makes a word has words of one length, and takes no memory but for gates. What compares and selects has words of any
+//! What makes a word has words of one length, and takes no memory. What compares and selects has words of any
 //! two: past its end a word has [`FALSE`].
 //!
 //! A gate that would be made again is found in the chain of its left side's signal. What a chain tells is looked at before it is
@@ -41,6 +43,7 @@ mod chains;
 mod choices;
 mod circuit;
 mod files;
+mod lack;
 mod literal;
 mod orders;
 mod register;
@@ -54,6 +57,7 @@ pub use files::{
     gates_are_read_back, lines_are_read_back, modules_are_read_back, statements_are_read_back,
     symbols_are_read_back, verilog_file,
 };
+pub use lack::{CircuitFault, Lack};
 pub use literal::{FALSE, Literal, TRUE};
 pub use register::Register;
 pub use words::{constant, literal_at};

@@ -1,5 +1,5 @@
 //! Signals and their negations.
-ghost use Rattle.std.specs.Prelude.{◌≡◌, ◌&&◌, ℕ, Bool, false, not, IfSome, IsTrue};
+ghost use Rattle.std.specs.Prelude.{◌≡◌, ◌≤◌, ◌&&◌, ℕ, Bool, false, max, not, IfSome, IsTrue};
 ghost use Rattle.can_gates.specs.Aiger.{literal_code};
 ghost use Rattle.can_gates.specs.Circuit.{value};
 ghost use Rattle.can_gates.specs.Words.{bit};
@@ -29,7 +29,8 @@ impl Literal {
     /// The literal that is true where this one is false.
     #[tactic(auto, unfolding(crate::specs::Circuit::value))]
     pub fn opposite(self) -> Literal
-        ensures { (v : ℕ → Bool) → value v result ≡ not (value v self) }
+        ensures value { (v : ℕ → Bool) → value v result ≡ not (value v self) }
+        ensures signal { result.signal ≡ self.signal }
     {
         Literal {
             signal: self.signal,
@@ -61,7 +62,8 @@ pub(crate) fn bit_of(value: bool) -> u64
 
 /// What two literals are together where that needs no gate: one of them is constant, or both are of one signal.
 pub(crate) fn folded(a: Literal, b: Literal) -> Option<Literal>
-    ensures { IfSome result (λ r. (v : ℕ → Bool) → v 0 ≡ false → value v r ≡ (value v a && value v b)) }
+    ensures value { IfSome result (λ r. (v : ℕ → Bool) → v 0 ≡ false → value v r ≡ (value v a && value v b)) }
+    ensures signal { IfSome result (λ r. r.signal ≤ max a.signal b.signal) }
 {
     if a.signal == 0 {
         return Some(with_constant(a, b));
@@ -78,7 +80,8 @@ pub(crate) fn folded(a: Literal, b: Literal) -> Option<Literal>
 /// A constant and a literal together.
 fn with_constant(known: Literal, other: Literal) -> Literal
     requires { known.signal ≡ 0 }
-    ensures { (v : ℕ → Bool) → v 0 ≡ false → value v result ≡ (value v known && value v other) }
+    ensures value { (v : ℕ → Bool) → v 0 ≡ false → value v result ≡ (value v known && value v other) }
+    ensures signal { result.signal ≤ other.signal }
 {
     if known.negated { other } else { FALSE }
 }
@@ -86,7 +89,8 @@ fn with_constant(known: Literal, other: Literal) -> Literal
 /// Two literals of one signal together.
 fn of_one_signal(a: Literal, b: Literal) -> Literal
     requires { a.signal ≡ b.signal }
-    ensures { (v : ℕ → Bool) → v 0 ≡ false → value v result ≡ (value v a && value v b) }
+    ensures value { (v : ℕ → Bool) → v 0 ≡ false → value v result ≡ (value v a && value v b) }
+    ensures signal { result.signal ≤ a.signal }
 {
     if a.negated == b.negated { a } else { FALSE }
 }

@@ -1,6 +1,7 @@
 //! How two words compare as numbers.
-ghost use Rattle.std.specs.Prelude.{◌≡◌, ◌==◌, ℕ, Bool, nat_lt};
+ghost use Rattle.std.specs.Prelude.{◌≡◌, ◌==◌, ◌++◌, [], ◌∷◌, ℕ, Bool, nat_lt};
 ghost use Rattle.can_gates.specs.Circuit.{value, Makes};
+ghost use Rattle.can_gates.specs.Lacking.{Serves};
 ghost use Rattle.can_gates.specs.Words.{number};
 
 use crate::circuit::Circuit;
@@ -10,7 +11,8 @@ use crate::words::literal_at;
 impl Circuit {
     /// Whether the first number is less than the second one.
     pub fn less(&mut self, a: &[Literal], b: &[Literal]) -> Literal
-        ensures { Makes self.old self.new (λ v. value v result ≡ nat_lt (number v a.now) (number v b.now)) }
+        ensures made { Makes self.old self.new (λ v. value v result ≡ nat_lt (number v a.now) (number v b.now)) }
+        ensures serves { Serves self.old self.new (a.now ++ b.now) (result ∷ []) }
     {
         let places = a.len().max(b.len());
         let mut less = FALSE;
@@ -26,7 +28,8 @@ impl Circuit {
 
     /// Whether two numbers are equal.
     pub fn equals(&mut self, a: &[Literal], b: &[Literal]) -> Literal
-        ensures { Makes self.old self.new (λ v. value v result ≡ (number v a.now == number v b.now)) }
+        ensures made { Makes self.old self.new (λ v. value v result ≡ (number v a.now == number v b.now)) }
+        ensures serves { Serves self.old self.new (a.now ++ b.now) (result ∷ []) }
     {
         let places = a.len().max(b.len());
         let mut equal = TRUE;

@@ -1,6 +1,7 @@
 //! The literal at the place that a word tells.
-ghost use Rattle.std.specs.Prelude.{◌≡◌, ◌≤◌, ◌^◌, ℕ, Bool, min, slice_index_or};
+ghost use Rattle.std.specs.Prelude.{◌≡◌, ◌≤◌, ◌^◌, ◌++◌, [], ◌∷◌, ℕ, Bool, min, slice_index_or};
 ghost use Rattle.can_gates.specs.Circuit.{value, Makes};
+ghost use Rattle.can_gates.specs.Lacking.{Serves};
 ghost use Rattle.can_gates.specs.Words.{number};
 
 use crate::circuit::Circuit;
@@ -9,7 +10,8 @@ use crate::literal::{FALSE, Literal};
 impl Circuit {
     /// The literal at the place that a number tells, never true past the end.
     pub fn select(&mut self, items: &[Literal], place: &[Literal]) -> Literal
-        ensures { Makes self.old self.new (λ v. value v result ≡ value v (slice_index_or items.now (number v place.now) FALSE)) }
+        ensures made { Makes self.old self.new (λ v. value v result ≡ value v (slice_index_or items.now (number v place.now) FALSE)) }
+        ensures serves { Serves self.old self.new (items.now ++ place.now) (result ∷ []) }
     {
         if items.len() == 0 {
             return FALSE;

@@ -1,6 +1,7 @@
 //! Sums and differences of words.
-ghost use Rattle.std.specs.Prelude.{◌≡◌, ◌+◌, ◌*◌, ◌-◌, ◌^◌, ℕ, Bool, min, length, take};
+ghost use Rattle.std.specs.Prelude.{◌≡◌, ◌++◌, ◌∷◌, ◌+◌, ◌*◌, ◌-◌, ◌^◌, ℕ, Bool, min, length, take};
 ghost use Rattle.can_gates.specs.Circuit.{value, Makes};
+ghost use Rattle.can_gates.specs.Lacking.{Serves};
 ghost use Rattle.can_gates.specs.Words.{number, bit};
 
 use crate::circuit::Circuit;
@@ -18,6 +19,7 @@ impl Circuit {
     ) -> [Literal; N]
         ensures places { length result ≡ N }
         ensures sum { Makes self.old self.new (λ v. number v result + 2 ^ N * bit (value v carry.new) ≡ number v a.now + number v (take N b.now) + bit (value v carry.old)) }
+        ensures serves { Serves self.old self.new (carry.old ∷ (a.now ++ b.now)) (carry.new ∷ result) }
     {
         let mut word = [FALSE; N];
         let mut over = *carry;
@@ -34,6 +36,7 @@ impl Circuit {
     pub fn raised<const N: usize>(&mut self, word: &[Literal; N], by: &[Literal]) -> [Literal; N]
         ensures places { length result ≡ N }
         ensures number { Makes self.old self.new (λ v. number v result ≡ min (number v word.now + number v (take N by.now)) (2 ^ N - 1)) }
+        ensures serves { Serves self.old self.new (word.now ++ by.now) result }
     {
         let mut carry = FALSE;
         let sum = self.add(word, by, &mut carry);
@@ -44,6 +47,7 @@ impl Circuit {
     pub fn lowered<const N: usize>(&mut self, word: &[Literal; N], by: &[Literal]) -> [Literal; N]
         ensures places { length result ≡ N }
         ensures number { Makes self.old self.new (λ v. number v result ≡ number v word.now - number v (take N by.now)) }
+        ensures serves { Serves self.old self.new (word.now ++ by.now) result }
     {
         let turned = complement(word);
         let up = self.raised(&turned, by);

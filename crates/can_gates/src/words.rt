@@ -1,6 +1,7 @@
 //! Numbers as words: literals, the lowest place first.
-ghost use Rattle.std.specs.Prelude.{◌≡◌, ◌+◌, ◌*◌, ◌%◌, ◌-◌, ◌^◌, ℕ, Bool, false, if◌then◌else◌, length, slice_index_or};
-ghost use Rattle.can_gates.specs.Circuit.{value, Makes};
+ghost use Rattle.std.specs.Prelude.{◌≡◌, ◌++◌, ◌∷◌, ◌+◌, ◌*◌, ◌%◌, ◌-◌, ◌^◌, ℕ, Bool, false, if◌then◌else◌, length, slice_index_or};
+ghost use Rattle.can_gates.specs.Circuit.{CircuitParts, value, Makes};
+ghost use Rattle.can_gates.specs.Lacking.{HasSignals, Serves};
 ghost use Rattle.can_gates.specs.Words.{number, bit};
 
 use crate::circuit::Circuit;
@@ -39,6 +40,7 @@ fn lowest(of: u64) -> Literal
 pub(crate) fn complement<const N: usize>(word: &[Literal; N]) -> [Literal; N]
     ensures places { length result ≡ N }
     ensures number { (v : ℕ → Bool) → v 0 ≡ false → number v result + number v word.now + 1 ≡ 2 ^ N }
+    ensures signals { (c : CircuitParts) → HasSignals c word.now → HasSignals c result }
 {
     let mut all = [FALSE; N];
     for place in 0..N {
@@ -57,6 +59,7 @@ impl Circuit {
     ) -> [Literal; N]
         ensures places { length result ≡ N }
         ensures number { Makes self.old self.new (λ v. number v result ≡ (if value v test then number v a.now else number v b.now)) }
+        ensures serves { Serves self.old self.new (test ∷ (a.now ++ b.now)) result }
     {
         let mut all = [FALSE; N];
         for place in 0..N {
@@ -73,6 +76,7 @@ impl Circuit {
     ) -> [Literal; N]
         ensures places { length result ≡ N }
         ensures number { Makes self.old self.new (λ v. number v result ≡ (if value v over then 2 ^ N - 1 else number v word.now)) }
+        ensures serves { Serves self.old self.new (over ∷ word.now) result }
     {
         let mut all = [FALSE; N];
         for place in 0..N {

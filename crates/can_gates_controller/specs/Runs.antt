@@ -57,7 +57,11 @@ abbrev pub StepsRegisters : CircuitParts → List Register → (ℕ → Bool) �
 StepsRegisters c registers before now =
     (i : ℕ) → i < length registers → now (held_signal c registers i) ≡ value before (register_at registers i).next
 
--- at first the registers hold an idle controller
+-- at first each register holds 0
+abbrev pub StartsZero : Design → Type 0
+StartsZero d = (i : ℕ) → i < length d.registers.items → (register_at d.registers.items i).starts ≡ false
+
+-- and so they hold an idle controller
 abbrev pub StartsIdle : Design → Type 0
 StartsIdle d = (v : ℕ → Bool) → StartsRegisters d.circuit d.registers.items v → HoldsAll v d.held idle
 

@@ -1,30 +1,34 @@
 //! A controller as a circuit of its own.
-ghost use Rattle.std.specs.Prelude.{◌≡◌, true, IfOk};
-ghost use Rattle.can_gates_controller.specs.Runs.{StartsIdle, Resets, IsController, RunsAlike, HasPorts};
+ghost use Rattle.std.specs.Prelude.{◌≡◌, None, IfOk};
+ghost use Rattle.can_gates_controller.specs.Runs.{StartsZero, StartsIdle, Resets, IsController, RunsAlike, HasPorts};
 
 use crate::design::Design;
 use crate::listing::{list_outputs, starting};
 use crate::signals::{INPUTS, input_ports, registers};
 use crate::stepping::step;
-use can_gates::Circuit;
-use std::alloc::{AllocError, Global};
+use can_gates::{Circuit, CircuitFault};
+use std::alloc::Global;
 
-/// A controller as a circuit, which has each of its gates. At first its registers hold an idle one, and behind a reset an idle
-/// one or one that joins; in each step of any run it is can_mac's own.
-pub fn controller_circuit(alloc: Global) -> Result<Design, AllocError>
-    ensures complete { IfOk result (λ d. d.circuit.complete ≡ true) }
+/// For how many gates there is room: a third more than there are.
+const ROOM: u32 = 8192;
+
+/// A controller as a circuit, which has each of its gates. At first its registers are 0 and hold an idle one, and behind a reset
+/// an idle one or one that joins; in each step of any run it is can_mac's own.
+pub fn controller_circuit(alloc: Global) -> Result<Design, CircuitFault>
+    ensures complete { IfOk result (λ d. d.circuit.lack ≡ None) }
+    ensures zero { IfOk result (λ d. StartsZero d) }
     ensures starts { IfOk result (λ d. StartsIdle d) }
     ensures resets { IfOk result (λ d. Resets d) }
     ensures steps { IfOk result (λ d. IsController d) }
     ensures runs { IfOk result (λ d. RunsAlike d) }
     ensures ports { IfOk result (λ d. HasPorts d) }
 {
-    let mut circuit = Circuit::new(alloc, INPUTS);
+    let mut circuit = Circuit::new(alloc, INPUTS, ROOM)?;
     let inputs = input_ports();
     let held = registers();
     let (next, outputs) = step(&mut circuit, &held, &inputs);
-    if !circuit.is_complete() {
-        return Err(AllocError);
+    if let Some(lack) = circuit.lack() {
+        return Err(CircuitFault::Incomplete(lack));
     }
     let registers = starting(alloc, &next)?;
     let listed = list_outputs(alloc, &outputs)?;

@@ -1,5 +1,5 @@
 -- What a run of `cangates` writes: a file of a controller's circuit. (docs/CIRCUIT.md)
-use Rattle.std.specs.Prelude.{ℕ, ◌≡◌, ◌≢◌, ◌<◌, Bool, true, IsTrue, List, Option, Result, Ok, Err}
+use Rattle.std.specs.Prelude.{ℕ, ◌≡◌, ◌≢◌, ◌<◌, Bool, IsTrue, List, Option, None, Result, Ok, Err}
 use Rattle.std.specs.Io.KnownBytes.{Appends, Keeps}
 use Rattle.can_gates.specs.declared.literal.Literal.{Literal}
 use Rattle.can_gates.specs.declared.register.Register.{Register}
@@ -10,7 +10,7 @@ use Rattle.can_gates.specs.Binary.{binary_text}
 use Rattle.can_gates.specs.Named.{ascii_text}
 use Rattle.can_gates.specs.Readable.{AreReadable}
 use Rattle.can_gates_controller.specs.declared.design.Design.{Design}
-use Rattle.can_gates_controller.specs.Runs.{HasPorts, IsController, Resets, RunsAlike, StartsIdle}
+use Rattle.can_gates_controller.specs.Runs.{HasPorts, IsController, Resets, RunsAlike, StartsIdle, StartsZero}
 use Rattle.can_stream.specs.Outbox.{TakesFront}
 use Rattle.can_stream.specs.declared.fault.TraceFault.{TraceFault}
 use Rattle.can_stream.specs.declared.fault.TraceFault.TheVariants.{Write, Memory}
@@ -29,7 +29,8 @@ text_in Binary n c registers outputs = binary_text n c registers outputs
 pub record IsFile (form : Form) (text : List ℕ) : Type 0 where
   pub names : Names
   pub design : Design
-  pub complete : design.circuit.complete ≡ true
+  pub complete : design.circuit.lack ≡ None
+  pub zero : StartsZero design
   pub starts : StartsIdle design
   pub resets : Resets design
   pub steps : IsController design

@@ -68,6 +68,7 @@ fn write_file<W: Sink>(alloc: Global, form: Form, w: &mut W) -> Result<(), Trace
 {
     match file(alloc, form) {
         Ok(text) => write_all(w, text.as_slice()),
+        // the controller's circuit lacks no gate, so only memory can be refused
         Err(_) => Err(TraceFault::Memory),
     }
 }

@@ -4,12 +4,14 @@ ghost use Rattle.cangates.specs.Files.{IsFile, text_in};
 
 use crate::names::names;
 use crate::words::Form;
-use can_gates::{Circuit, Literal, Names, Register, ascii_file, binary_file, verilog_file};
+use can_gates::{
+    Circuit, CircuitFault, Literal, Names, Register, ascii_file, binary_file, verilog_file,
+};
 use can_gates_controller::controller_circuit;
-use std::alloc::{AllocError, Global};
+use std::alloc::Global;
 
 /// The text of the file in this form.
-pub(crate) fn file(alloc: Global, form: Form) -> Result<Vec<u8>, AllocError>
+pub(crate) fn file(alloc: Global, form: Form) -> Result<Vec<u8>, CircuitFault>
     ensures { IfOk result (λ r. IsFile form r.items) }
 {
     let chosen = names();
@@ -33,7 +35,7 @@ fn text(
     circuit: &Circuit,
     registers: &[Register],
     outputs: &[Literal],
-) -> Result<Vec<u8>, AllocError>
+) -> Result<Vec<u8>, CircuitFault>
     requires { length registers.now ≤ circuit.now.inputs }
     ensures { IfOk result (λ r. r.items ≡ text_in form names.now circuit.now registers.now outputs.now) }
 {

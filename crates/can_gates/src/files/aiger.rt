@@ -1,11 +1,12 @@
 //! AIGER, with names.
-ghost use Rattle.std.specs.Prelude.{◌≡◌, ◌+◌, ◌-◌, ◌≤◌, ◌<◌, ◌^◌, ◌++◌, ℕ, List, [], true, length, map, reverse, IfOk};
+ghost use Rattle.std.specs.Prelude.{◌≡◌, ◌+◌, ◌-◌, ◌≤◌, ◌<◌, ◌^◌, ◌++◌, ℕ, List, [], None, length, map, reverse, IfErr, IfOk};
 ghost use Rattle.std.specs.List.{flat_map};
 ghost use Rattle.can_gates.specs.declared.register.Register.{Register as RegisterParts};
 ghost use Rattle.can_gates.specs.declared.literal.Literal.{Literal as Side};
 ghost use Rattle.can_gates.specs.Aiger.{line_text, file_lines};
 ghost use Rattle.can_gates.specs.AigerNumbers.{AreLines};
 ghost use Rattle.can_gates.specs.Circuit.{CircuitParts};
+ghost use Rattle.can_gates.specs.Lacking.{fault_of};
 ghost use Rattle.can_gates.specs.Ordered.{IsOrdered};
 ghost use Rattle.can_gates.specs.declared.files.words.Names.{Names as AllNames};
 ghost use Rattle.can_gates.specs.Binary.{binary_text, gate_bytes, gates_in, groups, register_numbers};
@@ -19,34 +20,37 @@ use crate::files::lines::{push_header, push_line, push_numbers, push_outputs};
 use crate::files::symbols::push_names;
 use crate::files::text::Text;
 use crate::files::words::{AllBits, Names};
+use crate::lack::CircuitFault;
 use crate::literal::{Literal, bit_of};
 use crate::register::Register;
-use std::alloc::{AllocError, Global};
+use std::alloc::Global;
 
 /// How many groups of seven bits a number may have behind its first one.
 const MORE_GROUPS: u32 = 9;
 
 /// An AIGER file in the ascii format: a circuit whose last inputs are what these registers hold, in their order, its names, and
-/// their meaning in a comment. It refuses where memory runs out, and a circuit that lacks a gate since it did.
+/// their meaning in a comment. It refuses a circuit that lacks a gate with the reason that the circuit has, and a
+/// complete one only if memory was refused.
 pub fn ascii_file(
     alloc: Global,
     names: &Names<'_>,
     circuit: &Circuit,
     registers: &[Register],
     outputs: &[Literal],
-) -> Result<Vec<u8>, AllocError>
+) -> Result<Vec<u8>, CircuitFault>
     requires { length registers.now ≤ circuit.now.inputs }
     ensures text { IfOk result (λ r. r.items ≡ ascii_text names.now circuit.now registers.now outputs.now) }
-    ensures complete { IfOk result (λ r. circuit.now.complete ≡ true) }
+    ensures complete { IfOk result (λ r. circuit.now.lack ≡ None) }
+    ensures fault { IfErr result (λ e. e ≡ fault_of circuit.now.lack) }
 {
-    if !circuit.is_complete() {
-        return Err(AllocError);
+    if let Some(lack) = circuit.lack() {
+        return Err(CircuitFault::Incomplete(lack));
     }
     let bits = AllBits::new(alloc, names)?;
     let mut text = Text::new(alloc);
     push_numbers(&mut text, circuit, registers, outputs);
     push_names(&mut text, names, &bits);
-    text.finished()
+    Ok(text.finished()?)
 }
 
 /// The same in the binary format.
@@ -56,13 +60,14 @@ pub fn binary_file(
     circuit: &Circuit,
     registers: &[Register],
     outputs: &[Literal],
-) -> Result<Vec<u8>, AllocError>
+) -> Result<Vec<u8>, CircuitFault>
     requires { length registers.now ≤ circuit.now.inputs }
     ensures text { IfOk result (λ r. r.items ≡ binary_text names.now circuit.now registers.now outputs.now) }
-    ensures complete { IfOk result (λ r. circuit.now.complete ≡ true) }
+    ensures complete { IfOk result (λ r. circuit.now.lack ≡ None) }
+    ensures fault { IfErr result (λ e. e ≡ fault_of circuit.now.lack) }
 {
-    if !circuit.is_complete() {
-        return Err(AllocError);
+    if let Some(lack) = circuit.lack() {
+        return Err(CircuitFault::Incomplete(lack));
     }
     let bits = AllBits::new(alloc, names)?;
     let mut text = Text::new(alloc);
@@ -72,7 +77,7 @@ pub fn binary_file(
     push_outputs(&mut text, outputs);
     push_gates(&mut text, circuit.gates());
     push_names(&mut text, names, &bits);
-    text.finished()
+    Ok(text.finished()?)
 }
 
 /// Appends the lines of registers.

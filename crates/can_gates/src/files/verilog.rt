@@ -1,11 +1,12 @@
 //! Modules of Verilog-2001.
-ghost use Rattle.std.specs.Prelude.{◌≡◌, ◌++◌, List, true, codes, decimal, IfOk};
+ghost use Rattle.std.specs.Prelude.{◌≡◌, ◌++◌, List, None, codes, decimal, IfErr, IfOk};
 ghost use Rattle.std.specs.List.{flat_map};
 ghost use Rattle.can_gates.specs.declared.register.Register.{Register as RegisterParts};
 ghost use Rattle.can_gates.specs.declared.literal.Literal.{Literal as Side};
 ghost use Rattle.can_gates.specs.Aiger.{file_lines};
 ghost use Rattle.can_gates.specs.AigerNumbers.{AreLines};
 ghost use Rattle.can_gates.specs.Circuit.{CircuitParts};
+ghost use Rattle.can_gates.specs.Lacking.{fault_of};
 ghost use Rattle.can_gates.specs.declared.files.words.Names.{Names as AllNames};
 ghost use Rattle.can_gates.specs.Module.{module_lines, read_module};
 ghost use Rattle.can_gates.specs.Readable.{AreReadable};
@@ -16,25 +17,27 @@ use crate::circuit::Circuit;
 use crate::files::statements::{push_assigns, push_gates, push_signals, push_takes};
 use crate::files::text::Text;
 use crate::files::words::{AllBits, Bit, Names, Word};
+use crate::lack::CircuitFault;
 use crate::literal::Literal;
 use crate::register::Register;
-use std::alloc::{AllocError, Global};
+use std::alloc::Global;
 
 /// A module: a circuit whose last inputs are what these registers hold, in their order. What comes in behind its
-/// clock, and what the registers hold, has these names in the order of the circuit's inputs. It refuses where memory runs out,
-/// and a circuit that lacks a gate since it did.
+/// clock, and what the registers hold, has these names in the order of the circuit's inputs. It refuses a circuit
+/// that lacks a gate with the reason that the circuit has, and a complete one only if memory was refused.
 pub fn verilog_file(
     alloc: Global,
     names: &Names<'_>,
     circuit: &Circuit,
     registers: &[Register],
     outputs: &[Literal],
-) -> Result<Vec<u8>, AllocError>
+) -> Result<Vec<u8>, CircuitFault>
     ensures text { IfOk result (λ r. r.items ≡ verilog_text names.now circuit.now registers.now outputs.now) }
-    ensures complete { IfOk result (λ r. circuit.now.complete ≡ true) }
+    ensures complete { IfOk result (λ r. circuit.now.lack ≡ None) }
+    ensures fault { IfErr result (λ e. e ≡ fault_of circuit.now.lack) }
 {
-    if !circuit.is_complete() {
-        return Err(AllocError);
+    if let Some(lack) = circuit.lack() {
+        return Err(CircuitFault::Incomplete(lack));
     }
     let bits = AllBits::new(alloc, names)?;
     let mut text = Text::new(alloc);
@@ -43,7 +46,7 @@ pub fn verilog_file(
     push_gates(&mut text, circuit.gates());
     push_assigns(&mut text, &bits.outputs, outputs);
     push_steps(&mut text, &bits.registers, registers);
-    text.finished()
+    Ok(text.finished()?)
 }
 
 /// Appends what the registers of these names take with each step, and the module's end.

@@ -10,9 +10,9 @@ loop-place-init c = (refl, λ v keeps. (keeps, value-never v (zero-kept v c.args
 pub loop-place-preserved : goal.loop-place-preserved
 loop-place-preserved c =
     let l = c.loop-place in (
-      c.or-some.ensures.0 ∙ l.invariant.0,
+      c.or-some.ensures.made.0 ∙ l.invariant.0,
       λ v keeps.
-          let some = c.or-some.ensures.1 v keeps in
+          let some = c.or-some.ensures.made.1 v keeps in
           let before = l.invariant.1 v some.0 in
           (before.0, rw (add-one l.place) (some.1 ∙ rw before.1 refl)),
     )
@@ -24,5 +24,5 @@ returns c =
       l.invariant.0,
       λ v keeps.
           let whole = l.invariant.1 v keeps in
-          (whole.0, λ u long held. c.opposite.ensures v ∙ ap not (rw e at whole.1) ∙ agree_is (λ p. value v (get_or c.args.check.now p never)) u long held),
+          (whole.0, λ u long held. c.opposite.ensures.value v ∙ ap not (rw e at whole.1) ∙ agree_is (λ p. value v (get_or c.args.check.now p never)) u long held),
     )

@@ -14,9 +14,9 @@ loop-place-preserved c =
     let within : l.place < length l.all = omega (arith, c.loop-place-test.true, l.auto.place-end, l.invariant.0) in (
       length-set l.all l.place c.xor.result ∙ l.invariant.0,
       (
-        c.xor.ensures.0 ∙ l.invariant.1.0,
+        c.xor.ensures.made.0 ∙ l.invariant.1.0,
         λ v keeps.
-            let level = c.xor.ensures.1 v keeps in
+            let level = c.xor.ensures.made.1 v keeps in
             let before = l.invariant.1.1 v level.0 in
             let zero_is = zero-kept v c.args.circuit.now before.0 in (
               before.0,

@@ -17,9 +17,9 @@ loop-place-preserved c =
     let bytes = c.args.bytes.now in (
       length-set l.all l.place c.and.result ∙ l.invariant.0,
       (
-        c.and.ensures.0 ∙ c.has_byte-counts.ensures.0 ∙ l.invariant.1.0,
+        c.and.ensures.made.0 ∙ c.has_byte-counts.ensures.0 ∙ l.invariant.1.0,
         λ v keeps.
-            let bit = c.and.ensures.1 v keeps in
+            let bit = c.and.ensures.made.1 v keeps in
             let counts = c.has_byte-counts.ensures.1 v bit.0 in
             let before = l.invariant.1.1 v counts.0 in
             let n = byte_count (value v c.args.remote) (nibble v c.args.dlc) in

@@ -11,20 +11,20 @@ use Rattle.can_gates_controller.proofs.front.frame_length.Goals as goal
 
 pub returns : goal.returns
 returns c = (
-  c.add.ensures.sum.0 ∙ c.choose-least.ensures.number.0 ∙ c.and-one.ensures.0 ∙ c.and-two.ensures.0 ∙ c.and-four.ensures.0 ∙ c.and-few.ensures.0 ∙ c.and-eight.ensures.0 ∙ c.ite-ones.ensures.0 ∙ c.ite-twos.ensures.0 ∙ c.ite-fours.ensures.0 ∙ c.ite-eights.ensures.0 ∙ c.ite-remote.ensures.0,
+  c.add.ensures.sum.0 ∙ c.choose-least.ensures.number.0 ∙ c.and-one.ensures.made.0 ∙ c.and-two.ensures.made.0 ∙ c.and-four.ensures.made.0 ∙ c.and-few.ensures.made.0 ∙ c.and-eight.ensures.made.0 ∙ c.ite-ones.ensures.made.0 ∙ c.ite-twos.ensures.made.0 ∙ c.ite-fours.ensures.made.0 ∙ c.ite-eights.ensures.made.0 ∙ c.ite-remote.ensures.made.0,
   λ v keeps.
       let sum = c.add.ensures.sum.1 v keeps in
       let least = c.choose-least.ensures.number.1 v sum.0 in
-      let one = c.and-one.ensures.1 v least.0 in
-      let two = c.and-two.ensures.1 v one.0 in
-      let four = c.and-four.ensures.1 v two.0 in
-      let few = c.and-few.ensures.1 v four.0 in
-      let eight = c.and-eight.ensures.1 v few.0 in
-      let ones = c.ite-ones.ensures.1 v eight.0 in
-      let twos = c.ite-twos.ensures.1 v ones.0 in
-      let fours = c.ite-fours.ensures.1 v twos.0 in
-      let eights = c.ite-eights.ensures.1 v fours.0 in
-      let remote = c.ite-remote.ensures.1 v eights.0 in
+      let one = c.and-one.ensures.made.1 v least.0 in
+      let two = c.and-two.ensures.made.1 v one.0 in
+      let four = c.and-four.ensures.made.1 v two.0 in
+      let few = c.and-few.ensures.made.1 v four.0 in
+      let eight = c.and-eight.ensures.made.1 v few.0 in
+      let ones = c.ite-ones.ensures.made.1 v eight.0 in
+      let twos = c.ite-twos.ensures.made.1 v ones.0 in
+      let fours = c.ite-fours.ensures.made.1 v twos.0 in
+      let eights = c.ite-eights.ensures.made.1 v fours.0 in
+      let remote = c.ite-remote.ensures.made.1 v eights.0 in
       let zero_is = zero-kept v c.args.circuit.now remote.0 in
       let no = value-never v zero_is in (
         remote.0,
@@ -37,8 +37,8 @@ returns c = (
             (fours.1 ∙ rw (at 36 (omega arith), at 16 (omega arith)) refl)
             (twos.1 ∙ rw (at 37 (omega arith), at 17 (omega arith)) refl)
             (ones.1 ∙ rw (at 38 (omega arith), at 18 (omega arith)) refl)
-            (few.1 ∙ rw (c.opposite-2.ensures v, c.opposite-3.ensures v) refl)
-            (rw (no, one.1, two.1, four.1, eight.1, c.opposite.ensures v, take_all 7 c.choose-least.result (omega (arith, c.choose-least.ensures.places)), least.1, c.constant-long.ensures.number v zero_is, c.constant-short.ensures.number v zero_is) at sum.1 ∙ omega arith)
+            (few.1 ∙ rw (c.opposite-2.ensures.value v, c.opposite-3.ensures.value v) refl)
+            (rw (no, one.1, two.1, four.1, eight.1, c.opposite.ensures.value v, take_all 7 c.choose-least.result (omega (arith, c.choose-least.ensures.places)), least.1, c.constant-long.ensures.number v zero_is, c.constant-short.ensures.number v zero_is) at sum.1 ∙ omega arith)
             small,
       ),
 )

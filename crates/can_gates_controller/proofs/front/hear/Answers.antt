@@ -6,17 +6,17 @@ use Rattle.can_gates_controller.proofs.front.hear.Goals as goal
 
 pub returns : goal.returns
 returns c = (
-  c.next_check-check.ensures.0 ∙ c.raised-count.ensures.number.0 ∙ c.written-levels.ensures.0 ∙ c.and-level.ensures.0 ∙ c.stuffing-stuffing.ensures.0,
+  c.next_check-check.ensures.0 ∙ c.raised-count.ensures.number.0 ∙ c.written-levels.ensures.0 ∙ c.and-level.ensures.made.0 ∙ c.stuffing-stuffing.ensures.0,
   λ v keeps.
       let check = c.next_check-check.ensures.1 v keeps in
       let count = c.raised-count.ensures.number.1 v check.0 in
       let levels = c.written-levels.ensures.1 v count.0 in
-      let level = c.and-level.ensures.1 v levels.0 in
+      let level = c.and-level.ensures.made.1 v levels.0 in
       let stuffing = c.stuffing-stuffing.ensures.1 v level.0 in (
         stuffing.0,
         λ front x held few short seen.
             let stuff = stuffing.1 front x held.run few seen in
-            let plain = c.opposite-plain.ensures v ∙ ap not stuff.0 in
+            let plain = c.opposite-plain.ensures.value v ∙ ap not stuff.0 in
             let is_level = rw (plain, seen) at level.1 in
             record {
               next = record {

@@ -15,11 +15,11 @@ loop-place-preserved c =
     let levels = c.args.levels.now in (
       length-set l.all l.place c.or.result ∙ l.invariant.0,
       (
-        c.or.ensures.0 ∙ c.and-new.ensures.0 ∙ c.equals-here.ensures.0 ∙ l.invariant.1.0,
+        c.or.ensures.made.0 ∙ c.and-new.ensures.made.0 ∙ c.equals-here.ensures.made.0 ∙ l.invariant.1.0,
         λ v keeps.
-            let both = c.or.ensures.1 v keeps in
-            let new = c.and-new.ensures.1 v both.0 in
-            let here = c.equals-here.ensures.1 v new.0 in
+            let both = c.or.ensures.made.1 v keeps in
+            let new = c.and-new.ensures.made.1 v both.0 in
+            let here = c.equals-here.ensures.made.1 v new.0 in
             let before = l.invariant.1.1 v here.0 in
             let zero_is = zero-kept v c.args.circuit.now before.0 in
             let low : l.place % 2 ^ 7 ≡ l.place = omega (arith, c.loop-place-test.true, l.auto.place-end) in

@@ -14,9 +14,9 @@ loop-place-preserved c =
     let bytes = c.args.bytes.now in (
       length-set l.all l.place c.ite.result ∙ l.invariant.0,
       (
-        c.ite.ensures.0 ∙ l.invariant.1.0,
+        c.ite.ensures.made.0 ∙ l.invariant.1.0,
         λ v keeps.
-            let level = c.ite.ensures.1 v keeps in
+            let level = c.ite.ensures.made.1 v keeps in
             let before = l.invariant.1.1 v level.0 in
             let is = level.1 ∙ rw (c.extended_level-extended.ensures, c.standard_level-standard.ensures) refl in
             (before.0, λ p h. written_place v (λ q. if value v k.extended then value v (get_or (extended_list k bytes) q never) else value v (get_or (standard_list k bytes) q never)) l.all c.ite.result l.place p within is before.1 h),

@@ -7,15 +7,15 @@ use Rattle.can_gates_controller.proofs.legal.heard_is_legal.Goals as goal
 
 pub returns : goal.returns
 returns c = (
-  c.ite.ensures.0 ∙ c.ite-behind.ensures.0 ∙ c.and-end.ensures.0 ∙ c.and-part.ensures.0 ∙ c.levels_are_legal-levels.ensures.0 ∙ c.going_is_legal-going.ensures.0 ∙ c.equals-whole.ensures.0 ∙ c.frame_length-length.ensures.0,
+  c.ite.ensures.made.0 ∙ c.ite-behind.ensures.made.0 ∙ c.and-end.ensures.made.0 ∙ c.and-part.ensures.made.0 ∙ c.levels_are_legal-levels.ensures.0 ∙ c.going_is_legal-going.ensures.0 ∙ c.equals-whole.ensures.made.0 ∙ c.frame_length-length.ensures.0,
   λ v keeps.
-      let made = c.ite.ensures.1 v keeps in
-      let behind = c.ite-behind.ensures.1 v made.0 in
-      let end = c.and-end.ensures.1 v behind.0 in
-      let part = c.and-part.ensures.1 v end.0 in
+      let made = c.ite.ensures.made.1 v keeps in
+      let behind = c.ite-behind.ensures.made.1 v made.0 in
+      let end = c.and-end.ensures.made.1 v behind.0 in
+      let part = c.and-part.ensures.made.1 v end.0 in
       let levels = c.levels_are_legal-levels.ensures.1 v part.0 in
       let going = c.going_is_legal-going.ensures.1 v levels.0 in
-      let whole = c.equals-whole.ensures.1 v going.0 in
+      let whole = c.equals-whole.ensures.made.1 v going.0 in
       let length = c.frame_length-length.ensures.1 v whole.0 in
       let zero_is = zero-kept v c.args.circuit.now length.0 in (
         length.0,

@@ -3,13 +3,13 @@ use Rattle.can_gates_controller.proofs.legal.is_legal.Goals as goal
 
 pub returns : goal.returns
 returns c = (
-  c.and.ensures.0 ∙ c.and-counted.ensures.0 ∙ c.and-on.ensures.0 ∙ c.and-stance.ensures.0 ∙ c.and-phase.ensures.0 ∙ c.heard_is_legal-heard.ensures.0 ∙ c.counters_are_legal-counters.ensures.0 ∙ c.wishes_are_legal-wishes.ensures.0 ∙ c.role_is_legal-role.ensures.0 ∙ c.marks_are_legal-marks.ensures.0 ∙ c.place_is_legal-place.ensures.0 ∙ c.within-within.ensures.0,
+  c.and.ensures.made.0 ∙ c.and-counted.ensures.made.0 ∙ c.and-on.ensures.made.0 ∙ c.and-stance.ensures.made.0 ∙ c.and-phase.ensures.made.0 ∙ c.heard_is_legal-heard.ensures.0 ∙ c.counters_are_legal-counters.ensures.0 ∙ c.wishes_are_legal-wishes.ensures.0 ∙ c.role_is_legal-role.ensures.0 ∙ c.marks_are_legal-marks.ensures.0 ∙ c.place_is_legal-place.ensures.0 ∙ c.within-within.ensures.0,
   λ v keeps.
-      let made = c.and.ensures.1 v keeps in
-      let counted = c.and-counted.ensures.1 v made.0 in
-      let on = c.and-on.ensures.1 v counted.0 in
-      let stance = c.and-stance.ensures.1 v on.0 in
-      let phase = c.and-phase.ensures.1 v stance.0 in
+      let made = c.and.ensures.made.1 v keeps in
+      let counted = c.and-counted.ensures.made.1 v made.0 in
+      let on = c.and-on.ensures.made.1 v counted.0 in
+      let stance = c.and-stance.ensures.made.1 v on.0 in
+      let phase = c.and-phase.ensures.made.1 v stance.0 in
       let heard = c.heard_is_legal-heard.ensures.1 v phase.0 in
       let counters = c.counters_are_legal-counters.ensures.1 v heard.0 in
       let wishes = c.wishes_are_legal-wishes.ensures.1 v counters.0 in

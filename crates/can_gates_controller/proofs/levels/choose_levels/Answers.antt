@@ -13,9 +13,9 @@ loop-place-preserved g c =
     let b = c.args.b.now in (
       length-set l.all l.place c.ite.result ∙ l.invariant.0,
       (
-        c.ite.ensures.0 ∙ l.invariant.1.0,
+        c.ite.ensures.made.0 ∙ l.invariant.1.0,
         λ v keeps.
-            let level = c.ite.ensures.1 v keeps in
+            let level = c.ite.ensures.made.1 v keeps in
             let before = l.invariant.1.1 v level.0 in
             let is = level.1 ∙ rw (c.literal_at-first.ensures, c.literal_at-other.ensures) refl in
             (before.0, λ p h. written_place v (λ q. if value v c.args.test then value v (get_or a q never) else value v (get_or b q never)) l.all c.ite.result l.place p within is before.1 h),

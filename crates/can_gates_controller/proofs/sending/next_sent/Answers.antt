@@ -9,13 +9,13 @@ use Rattle.can_gates_controller.proofs.sending.next_sent.Goals as goal
 
 pub returns : goal.returns
 returns c = (
-  c.ite.ensures.0 ∙ c.less-of_head.ensures.0 ∙ c.lowered-before.ensures.number.0 ∙ c.frame_length-length.ensures.0 ∙ c.select-level.ensures.0,
+  c.ite.ensures.made.0 ∙ c.less-of_head.ensures.made.0 ∙ c.lowered-before.ensures.number.0 ∙ c.frame_length-length.ensures.0 ∙ c.select-level.ensures.made.0,
   λ v keeps.
-      let made = c.ite.ensures.1 v keeps in
-      let of_head = c.less-of_head.ensures.1 v made.0 in
+      let made = c.ite.ensures.made.1 v keeps in
+      let of_head = c.less-of_head.ensures.made.1 v made.0 in
       let before = c.lowered-before.ensures.number.1 v of_head.0 in
       let long = c.frame_length-length.ensures.1 v before.0 in
-      let level = c.select-level.ensures.1 v long.0 in
+      let level = c.select-level.ensures.made.1 v long.0 in
       let zero_is = zero-kept v c.args.circuit.now level.0 in (
         level.0,
         λ f front is own held sent.

@@ -15,12 +15,12 @@ loop-place-preserved c =
     let within : l.place < length l.all = omega (arith, c.loop-place-test.true, l.auto.place-end, l.invariant.0) in (
       length-set l.all l.place c.or.result ∙ l.invariant.0,
       (
-        c.or.ensures.0 ∙ c.or-either.ensures.0 ∙ c.and-old.ensures.0 ∙ c.and-new.ensures.0 ∙ l.invariant.1.0,
+        c.or.ensures.made.0 ∙ c.or-either.ensures.made.0 ∙ c.and-old.ensures.made.0 ∙ c.and-new.ensures.made.0 ∙ l.invariant.1.0,
         λ v keeps.
-            let taken = c.or.ensures.1 v keeps in
-            let either = c.or-either.ensures.1 v taken.0 in
-            let old = c.and-old.ensures.1 v either.0 in
-            let new = c.and-new.ensures.1 v old.0 in
+            let taken = c.or.ensures.made.1 v keeps in
+            let either = c.or-either.ensures.made.1 v taken.0 in
+            let old = c.and-old.ensures.made.1 v either.0 in
+            let new = c.and-new.ensures.made.1 v old.0 in
             let before = l.invariant.1.1 v new.0 in
             let zero_is = zero-kept v c.args.circuit.now before.0 in
             let is = taken.1 ∙ rw (either.1, old.1, new.1, c.register_at.ensures, c.register_at-in-loop-place.ensures, c.at_first.ensures v zero_is) refl in

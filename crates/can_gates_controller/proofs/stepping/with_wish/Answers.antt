@@ -8,10 +8,10 @@ use Rattle.can_gates_controller.proofs.stepping.with_wish.Goals as goal
 
 pub returns : goal.returns
 returns c = (
-  c.choose-pending.ensures.0 ∙ c.and-asks.ensures.0 ∙ c.less-few.ensures.0,
+  c.choose-pending.ensures.0 ∙ c.and-asks.ensures.made.0 ∙ c.less-few.ensures.0,
   λ v keeps.
       let pending = c.choose-pending.ensures.1 v keeps in
-      let asks = c.and-asks.ensures.1 v pending.0 in
+      let asks = c.and-asks.ensures.made.1 v pending.0 in
       let few = c.less-few.ensures.1 v asks.0 in
       let no = value-never v (zero-kept v c.args.circuit.now few.0) in
       let held = c.args.held.now in

@@ -16,9 +16,9 @@ loop-place-preserved c =
     let levels = c.args.levels.now in (
       length-set l.word l.place c.ite.result ∙ l.invariant.0,
       (
-        c.ite.ensures.0 ∙ l.invariant.1.0,
+        c.ite.ensures.made.0 ∙ l.invariant.1.0,
         λ v keeps.
-            let bit = c.ite.ensures.1 v keeps in
+            let bit = c.ite.ensures.made.1 v keeps in
             let before = l.invariant.1.1 v bit.0 in
             let is = bit.1 ∙ rw (c.long_bit-long.ensures, c.short_bit-short.ensures) refl in
             (before.0, λ p h. written_place v (λ q. if value v c.args.extended then value v (get_or (long_list levels) q never) else value v (get_or (short_list levels) q never)) l.word c.ite.result l.place p within is before.1 h),

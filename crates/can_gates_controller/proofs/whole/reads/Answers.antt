@@ -10,10 +10,10 @@ use Rattle.can_gates_controller.proofs.whole.reads.Goals as goal
 
 pub returns : goal.returns
 returns c = (
-  c.next_sent-sent.ensures.0 ∙ c.and-due.ensures.0 ∙ c.agrees-agrees.ensures.0,
+  c.next_sent-sent.ensures.0 ∙ c.and-due.ensures.made.0 ∙ c.agrees-agrees.ensures.0,
   λ v keeps.
       let sent = c.next_sent-sent.ensures.1 v keeps in
-      let due = c.and-due.ensures.1 v sent.0 in
+      let due = c.and-due.ensures.made.1 v sent.0 in
       let agrees = c.agrees-agrees.ensures.1 v due.0 in (
         agrees.0,
         λ m waiting held waits. record {

@@ -8,4 +8,4 @@ use Rattle.can_gates_mac.proofs.leaves.more_than.Goals as goal
 pub returns : goal.returns
 returns c = λ v zero_is few.
     let no = value-never v zero_is in
-    nibble_is v _ _ _ _ _ (c.opposite.ensures v) refl no no ∙ more_bits _ _ _ _ _ (nibble-bits v c.args.used) (ltb-true (nibble v c.args.used) 2 few)
+    nibble_is v _ _ _ _ _ (c.opposite.ensures.value v) refl no no ∙ more_bits _ _ _ _ _ (nibble-bits v c.args.used) (ltb-true (nibble v c.args.used) 2 few)

@@ -13,17 +13,17 @@ returns-clause-places c = c.add-occurrences.ensures.places
 pub returns-clause-recovers : goal.returns-clause-recovers
 returns-clause-recovers c =
     let word = c.add-occurrences.result in (
-      c.add-occurrences.ensures.sum.0 ∙ c.choose-row.ensures.0 ∙ c.and-full.ensures.0 ∙ c.and-early.ensures.0,
+      c.add-occurrences.ensures.sum.0 ∙ c.choose-row.ensures.0 ∙ c.and-full.ensures.made.0 ∙ c.and-early.ensures.made.0,
       λ v keeps.
           let sum = c.add-occurrences.ensures.sum.1 v keeps in
           let row = c.choose-row.ensures.1 v sum.0 in
-          let full = c.and-full.ensures.1 v row.0 in
-          let early = c.and-early.ensures.1 v full.0 in
+          let full = c.and-full.ensures.made.1 v row.0 in
+          let early = c.and-early.ensures.made.1 v full.0 in
           let zero_is = zero-kept v c.args.circuit.now early.0 in (
             early.0,
             λ parts x off low few places seen held.
                 let is_early = rw (seen, places.below_10) at early.1 in
-                let is_full = rw (seen, c.opposite-late.ensures v, places.below_10) at full.1 in
+                let is_full = rw (seen, c.opposite-late.ensures.value v, places.below_10) at full.1 in
                 let is_row = rw (c.of.ensures v zero_is) at row.1 in
                 let one : parts.occurrences + (bit (value v c.and-full.result) + 2 * 0) + 0 ≡ parts.occurrences + bit (value v c.and-full.result) = omega arith in
                 let is_sum = rw (held, value-never v zero_is) at sum.1 ∙ one in

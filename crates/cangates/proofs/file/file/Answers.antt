@@ -11,6 +11,7 @@ returns c =
       names = c.names-chosen.result;
       design = c.in_ok-design.design;
       complete = made.complete;
+      zero = made.zero;
       starts = made.starts;
       resets = made.resets;
       steps = made.steps;

@@ -4,4 +4,4 @@ use Rattle.can_gates.specs.Ordered.{IsOrdered}
 use Rattle.can_gates.proofs.circuit.Circuit.is_in_order.Goals as goal
 
 pub returns-clause-order : goal.returns-clause-order
-returns-clause-order c = subst (λ (p : CircuitParts). IsOrdered p.inputs p.highest p.gates) c.self.view_is c.self.invariant
+returns-clause-order c = subst (λ (p : CircuitParts). IsOrdered p.inputs p.highest p.gates) c.self.view_is c.self.invariant.ordered

@@ -7,8 +7,8 @@ use Rattle.can_gates_mac.proofs.nibble.Nibble.less.Goals as goal
 pub returns : goal.returns
 unfolding nibble
 returns c = (
-  c.less.ensures.0,
+  c.less.ensures.made.0,
   λ v keeps.
-      let made = c.less.ensures.1 v keeps in
+      let made = c.less.ensures.made.1 v keeps in
       (made.0, made.1 ∙ ap (λ n. nat_lt (nibble v c.args.self) n) (c.of-most.ensures v (zero-kept v c.args.circuit.now made.0))),
 )
