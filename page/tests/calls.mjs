@@ -99,6 +99,7 @@ const allPortTimes = (letters, most) => ['page_all_port_times', [text(letters), 
 const ROWS = [
   [...encode('S 000 D 0', 157), 0, { count: 50, place: 99, levels: [...WIRE].map(Number), 'levels 50': 9 }],
   [...encode('S 000 D 0', 156), 1, { count: 99, place: 99, 'levels 0': 9 }],
+  [...encode('T 000 D 0', 156), 1, { count: 99, place: 99 }],
   [...encode('', 157), 11, { count: 99, place: 0 }],
   [...encode('T 000 D 0', 157), 11, { count: 99, place: 0 }],
   [...encode('S 800 D 0', 157), 12, { count: 99, place: 2 }],
@@ -115,11 +116,17 @@ const ROWS = [
   [...frameText(0, 0, 0, 16, []), 4, { count: 99 }],
   [...frameText(0, 0, 0, 1, []), 5, { count: 99 }],
   [...frameText(0, 0, 1, 1, [0]), 5, { count: 99 }],
-  [...frameText(0, 0, 0, 0, [], 8), 1, { count: 99 }],
+  [...frameText(0, 0, 0, 0, [], 9), 0, { count: 9, text: text('S 000 D 0').bytes }],
+  [...frameText(0, 0, 0, 0, [], 8), 1, { count: 99, 'text 0': 9 }],
+  // identifier, DLC and number of data bytes are tested in this order, and then the room
+  [...frameText(0x800, 0, 0, 16, [0], 8), 3, { count: 99 }],
+  [...frameText(0x7ff, 0, 0, 16, [0], 8), 4, { count: 99 }],
+  [...frameText(0x7ff, 0, 0, 0, [0], 8), 5, { count: 99 }],
 
   [...levelsOf('1 0\r\n1'), 0, { count: 3, place: 99, levels: [1, 0, 1] }],
   [...levelsOf('10 2'), 2, { count: 2, place: 3, levels: [1, 0] }],
-  [...levelsOf('101010101'), 1, {}],
+  [...levelsOf('1010 010'), 0, { count: 7, place: 99, levels: [1, 0, 1, 0, 0, 1, 0] }],
+  [...levelsOf('101 10102'), 1, { count: 0, place: 99, 'levels 0': 9 }],
 
   [...marks(WIRE), 0, {
     count: 50, 'fields 0': 0, 'fields 13': 1, 'fields 14': 3, 'fields 15': 5, 'fields 16': 7, 'fields 18': 8, 'fields 22': 10, 'fields 40': 11,
@@ -135,6 +142,10 @@ const ROWS = [
   [...marks('0101010101011'), 0, { count: 13, 'fields 11': 1, 'fields 12': 2 }],
   ['page_marks', [bytes(0, 2), room('fields', 157), room('stuffed', 157), number('count')], 2, { count: 99 }],
   [...marks('01', 156), 1, { count: 99 }],
+  // the room is tested before the numbers, of which those after the first 157 are not read
+  [...marks('02', 156), 1, { count: 99 }],
+  [...marks('0' + '1'.repeat(156) + '2'), 0, { count: 7, 'stuffed 6': 1, 'fields 7': 9 }],
+  [...marks('0' + '1'.repeat(155) + '2'), 2, { count: 99, 'fields 0': 9, 'stuffed 0': 9 }],
 
   [...run(SCENARIO), 0, { lines: REPORT }],
   ...[

@@ -1,6 +1,6 @@
 -- The numbers by which the page knows what a call answers. Those of frame texts are those of the codes X1 to X6 and
 -- ten more. (docs/CODES.md)
-use Rattle.std.specs.Prelude.{ℕ}
+use Rattle.std.specs.Prelude.{◌≡◌, ℕ}
 use Rattle.can_frame.specs.declared.text.TextFaultKind.{TextFaultKind}
 use Rattle.can_frame.specs.declared.text.TextFaultKind.TheVariants.{KindLetter, Identifier, DataOrRemote, Dlc, Data, Trailing}
 use Rattle.can_page.specs.declared.answer.Answer.{Answer}
@@ -38,6 +38,18 @@ no_room = answer_code NoRoom
 abbrev pub bad_level : ℕ
 bad_level = answer_code BadLevel
 
+-- the frame's kind has no such identifier
+abbrev pub bad_identifier : ℕ
+bad_identifier = answer_code BadIdentifier
+
+-- the DLC is above 15
+abbrev pub bad_dlc : ℕ
+bad_dlc = answer_code BadDlc
+
+-- the number of data bytes is not that of the DLC
+abbrev pub bad_count : ℕ
+bad_count = answer_code BadCount
+
 -- the document says no scenario
 abbrev pub bad_scenario : ℕ
 bad_scenario = answer_code BadScenario
@@ -70,3 +82,7 @@ text_answer DataOrRemote = DirectionFault
 text_answer Dlc = DlcFault
 text_answer Data = DataFault
 text_answer Trailing = TrailingFault
+
+-- this is the answer for a fault of some frame text
+abbrev pub IsTextAnswer : ℕ → Type 0
+IsTextAnswer answer = (kind : TextFaultKind) × (answer ≡ answer_code (text_answer kind))

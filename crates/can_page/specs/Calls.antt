@@ -9,9 +9,10 @@ use Rattle.can_page.specs.declared.answer.Answer.TheVariants.{BadIdentifier, Bad
 abbrev pub parts_of : ℕ → Bool → Bool → ℕ → List ℕ → Parts
 parts_of raw extended remote dlc bytes = record { id = record { raw = raw; extended = extended }; remote = remote; dlc = dlc; bytes = bytes }
 
--- why parts are those of no frame
+-- The first reason why parts are those of no frame: the identifier is tested before the DLC, and the DLC before the number
+-- of data bytes.
 abbrev pub IsRefusal : Answer → Parts → Type 0
 IsRefusal BadIdentifier f = ident_count f.id.extended ≤ f.id.raw
-IsRefusal BadDlc f = 15 < f.dlc
-IsRefusal BadCount f = length f.bytes ≢ byte_count f.remote f.dlc
+IsRefusal BadDlc f = (f.id.raw < ident_count f.id.extended) × (15 < f.dlc)
+IsRefusal BadCount f = (f.id.raw < ident_count f.id.extended) × (f.dlc ≤ 15) × (length f.bytes ≢ byte_count f.remote f.dlc)
 IsRefusal _ f = ⊥

@@ -1,10 +1,10 @@
-ghost use Rattle.std.specs.Prelude.{◌≡◌, ◌≢◌, ◌<◌, ◌≤◌, length, take, IfErr, IfOk, IfSome, IsNone, OnOk};
+ghost use Rattle.std.specs.Prelude.{◌≡◌, ◌≢◌, ◌<◌, ◌≤◌, ◌↔◌, ◌⊎◌, length, take, IfErr, IfOk, IfSome, IsNone, OnOk};
 ghost use Rattle.can_frame.specs.Ident.{ident_count};
 ghost use Rattle.can_frame.specs.Parts.{Parts, IsFrame, byte_count};
 ghost use Rattle.can_frame.specs.Text.{frame_text, IsTextFault};
 ghost use Rattle.can_frame.specs.declared.text.TextFault.{TextFault as Fault};
 ghost use Rattle.can_wire.specs.Wire.{driven};
-ghost use Rattle.can_page.specs.Answers.{answer_code, all_done, no_room, text_answer};
+ghost use Rattle.can_page.specs.Answers.{answer_code, IsTextAnswer, all_done, bad_count, bad_dlc, bad_identifier, no_room, text_answer};
 ghost use Rattle.can_page.specs.Calls.{IsRefusal, parts_of};
 ghost use Rattle.can_page.specs.Codes.{level_codes};
 
@@ -14,8 +14,11 @@ use can_fields::MOST_LEVELS;
 use can_frame::{Frame, Id};
 use can_wire::write_codes;
 
-/// Writes the levels that the sender of a frame drives, one byte each, by the frame's text, and how many they are. Where
-/// the bytes are no frame text, the answer tells the part in which the fault lies, and `place` where.
+/// Writes the levels that the transmitter of the frame with this text drives, one byte each, and their number.
+///
+/// `levels` needs room for 157 levels, as no frame has more, whatever the text; this is tested first. If the bytes are no
+/// frame text, the call returns the part in which the fault lies, and writes its place to `place`. A call that is refused
+/// writes nothing else.
 #[unsafe(no_mangle)]
 pub extern "C" fn page_encode(
     text: &[u8],
@@ -27,6 +30,10 @@ pub extern "C" fn page_encode(
     ensures within { result ≡ all_done → count.new ≤ length levels.old }
     ensures taken { (f : Parts) → IsFrame f → frame_text f ≡ text.now → 157 ≤ length levels.old → result ≡ all_done }
     ensures fault { result ≢ all_done → result ≢ no_room → (fault : Fault) × (IsTextFault text.now fault × (result ≡ answer_code (text_answer fault.kind)) × (place.new ≡ fault.place)) }
+    ensures answers { (result ≡ all_done) ⊎ (result ≡ no_room) ⊎ IsTextAnswer result }
+    ensures room { (result ≡ no_room) ↔ (length levels.old < 157) }
+    ensures unwritten { result ≢ all_done → (levels.new ≡ levels.old) × (count.new ≡ count.old) }
+    ensures unplaced { (result ≡ all_done) ⊎ (result ≡ no_room) → place.new ≡ place.old }
 {
     if levels.len() < MOST_LEVELS {
         return Answer::NoRoom.code();
@@ -45,8 +52,12 @@ pub extern "C" fn page_encode(
     }
 }
 
-/// Writes the text of the frame with these parts, and how many bytes it has. A remote frame has no data bytes, and
-/// takes none.
+/// Writes the text of the frame with these parts, and the number of its bytes. A remote frame has no data bytes, and takes
+/// none.
+///
+/// Identifier, DLC and number of data bytes are tested in this order, and then whether `text` has room for the text of
+/// the frame, which has 32 bytes at most. The call returns the first of these tests that fails. A call that is refused
+/// writes nothing.
 #[unsafe(no_mangle)]
 pub extern "C" fn page_frame_text(
     identifier: u32,
@@ -61,9 +72,13 @@ pub extern "C" fn page_frame_text(
     ensures within { result ≡ all_done → count.new ≤ length text.old }
     ensures whole { result ≡ all_done → IsFrame (parts_of identifier extended remote dlc bytes.now) }
     ensures taken { IsFrame (parts_of identifier extended remote dlc bytes.now) → 32 ≤ length text.old → result ≡ all_done }
-    ensures identifier { result ≡ answer_code Answer.BadIdentifier → ident_count extended ≤ identifier }
-    ensures dlc { result ≡ answer_code Answer.BadDlc → 15 < dlc }
-    ensures count { result ≡ answer_code Answer.BadCount → length bytes.now ≢ byte_count remote dlc }
+    ensures identifier { (result ≡ bad_identifier) ↔ (ident_count extended ≤ identifier) }
+    ensures dlc { (result ≡ bad_dlc) ↔ ((identifier < ident_count extended) × (15 < dlc)) }
+    ensures count { (result ≡ bad_count) ↔ ((identifier < ident_count extended) × (dlc ≤ 15) × (length bytes.now ≢ byte_count remote dlc)) }
+    ensures room { (result ≡ no_room) ↔ (IsFrame (parts_of identifier extended remote dlc bytes.now)
+        × (length text.old < length (frame_text (parts_of identifier extended remote dlc bytes.now)))) }
+    ensures answers { (result ≡ all_done) ⊎ (result ≡ no_room) ⊎ (result ≡ bad_identifier) ⊎ (result ≡ bad_dlc) ⊎ (result ≡ bad_count) }
+    ensures unwritten { result ≢ all_done → (text.new ≡ text.old) × (count.new ≡ count.old) }
 {
     match frame_of(identifier, extended, remote, dlc, bytes) {
         Ok(frame) => {

@@ -1,4 +1,4 @@
-ghost use Rattle.std.specs.Prelude.{◌≡◌, ◌^◌, ◌≤◌, ◌⊎◌, [], false, true, length, take, option_to_list, IfOk, IfSome, OnErr, OnOk, Some};
+ghost use Rattle.std.specs.Prelude.{◌≡◌, ◌≢◌, ◌^◌, ◌<◌, ◌≤◌, ◌↔◌, ◌⊎◌, [], false, true, length, take, option_to_list, IfOk, IfSome, OnErr, OnOk, Some};
 ghost use Rattle.can_texts.specs.Decoded.{DecodesAll, DecodesToBadByte};
 ghost use Rattle.can_texts.specs.TraceText.{IsFirstBadTraceByte, IsTraceText, is_trace_byte, levels_in, levels_of_byte};
 ghost use Rattle.can_page.specs.Answers.{bad_level, all_done, no_room};
@@ -64,8 +64,11 @@ pub(crate) fn decode_onto<R: Source, W: Sink>(trace: &mut R, out: &mut W, place:
     }
 }
 
-/// Writes the levels of a trace, one byte each, and how many they are. A byte of the text that may not stand in a trace
-/// is told by its place, and the levels before it are written.
+/// Writes the levels of a trace, one byte each, and their number.
+///
+/// `levels` needs room for one level for each byte of the text, also for those that are skipped; this is tested first,
+/// and in too little room nothing is written but the number 0. If a byte may not appear in a trace, the call writes its
+/// place in the text to `place`, and the levels before it.
 #[unsafe(no_mangle)]
 pub extern "C" fn page_levels(
     text: &[u8],
@@ -75,9 +78,14 @@ pub extern "C" fn page_levels(
 ) -> u8
     ensures levels { result ≡ all_done → take count.new levels.new ≡ level_codes (levels_in text.now) }
     ensures text { result ≡ all_done → IsTraceText text.now }
+    ensures taken { IsTraceText text.now → length text.now ≤ length levels.old → result ≡ all_done }
     ensures bad { result ≡ bad_level → IsFirstBadTraceByte text.now place.new }
     ensures before { result ≡ bad_level → take count.new levels.new ≡ level_codes (levels_in (take place.new text.now)) }
     ensures within { count.new ≤ length levels.old }
+    ensures answers { (result ≡ all_done) ⊎ (result ≡ bad_level) ⊎ (result ≡ no_room) }
+    ensures room { (result ≡ no_room) ↔ (length levels.old < length text.now) }
+    ensures unwritten { result ≡ no_room → (levels.new ≡ levels.old) × (count.new ≡ 0) }
+    ensures unplaced { result ≢ bad_level → place.new ≡ place.old }
 {
     *count = 0;
     if levels.len() < text.len() {

@@ -1,6 +1,6 @@
-ghost use Rattle.std.specs.Prelude.{◌≡◌, ◌≤◌, false, true, length, take};
+ghost use Rattle.std.specs.Prelude.{◌≡◌, ◌≢◌, ◌<◌, ◌≤◌, ◌↔◌, ◌⊎◌, false, true, length, take};
 ghost use Rattle.can_fields.specs.Marks.{marks_of};
-ghost use Rattle.can_page.specs.Answers.{answer_code, all_done};
+ghost use Rattle.can_page.specs.Answers.{all_done, bad_level, no_room};
 ghost use Rattle.can_frame.specs.Levels.{are_level_codes, levels_of_codes};
 ghost use Rattle.can_page.specs.Codes.{field_codes, stuff_codes};
 
@@ -9,8 +9,12 @@ use crate::codes::field_code;
 use can_fields::{MOST_LEVELS, Mark, marks};
 use can_wire::front_of_codes;
 
-/// Tells of each of the first 157 levels, as no frame has more, the number of the field in which it stands and whether
-/// it is a stuff bit, and of how many it tells.
+/// Writes the number of the field in which each of the first 157 levels is, whether the level is a stuff bit, and of how
+/// many levels this is written. No frame has more levels, and numbers after the first 157 are not read.
+///
+/// `fields` and `stuffed` need room for 157 levels each, however few there are; this is tested first. The numbers of
+/// levels are 0, dominant, and 1, recessive: if one of the first 157 is another, the call returns this. A call that is
+/// refused writes nothing.
 #[unsafe(no_mangle)]
 pub extern "C" fn page_marks(
     levels: &[u8],
@@ -21,8 +25,11 @@ pub extern "C" fn page_marks(
     ensures fields { result ≡ all_done → take count.new fields.new ≡ field_codes (marks_of (levels_of_codes (take 157 levels.now))) }
     ensures stuffed { result ≡ all_done → take count.new stuffed.new ≡ stuff_codes (marks_of (levels_of_codes (take 157 levels.now))) }
     ensures count { result ≡ all_done → count.new ≡ length (marks_of (levels_of_codes (take 157 levels.now))) }
-    ensures bad { result ≡ answer_code Answer.BadLevel → are_level_codes (take 157 levels.now) ≡ false }
+    ensures bad { (result ≡ bad_level) ↔ ((157 ≤ length fields.old) × (157 ≤ length stuffed.old) × (are_level_codes (take 157 levels.now) ≡ false)) }
     ensures taken { 157 ≤ length fields.old → 157 ≤ length stuffed.old → are_level_codes (take 157 levels.now) ≡ true → result ≡ all_done }
+    ensures answers { (result ≡ all_done) ⊎ (result ≡ no_room) ⊎ (result ≡ bad_level) }
+    ensures room { (result ≡ no_room) ↔ ((length fields.old < 157) ⊎ (length stuffed.old < 157)) }
+    ensures unwritten { result ≢ all_done → (fields.new ≡ fields.old) × (stuffed.new ≡ stuffed.old) × (count.new ≡ count.old) }
 {
     if fields.len() < MOST_LEVELS || stuffed.len() < MOST_LEVELS {
         return Answer::NoRoom.code();
