@@ -16,7 +16,7 @@ frame_later d x = record { time = d + x.time; frame = x.frame }
 abbrev pub frames_later : ℕ → List TimedParts → List TimedParts
 frames_later d timed = map (frame_later d) timed
 
--- an attempt that starts d bit times later; if it is hit, then on the same of its levels
+-- an attempt that starts d bit times later; if it is hit, the same of its levels is hit
 abbrev pub attempt_later : ℕ → Transmission → Transmission
 attempt_later d s = record { time = d + s.time; frame = s.frame; hit = s.hit }
 

@@ -28,8 +28,8 @@ pub fn frames_end_in_time_on_the_bus()
         AtEachNode (LogNames offers releases place r) bus.ports (call_after offers hits bits bus).bus.ports) }
 {}
 
-/// A bound holds for frames that were released before the first bit time of the course, too. The times of all releases are then counted
-/// from a moment before it. Each frame of the message ends at most the bound after its release.
+/// A bound also holds for frames that were released before the first bit time of the course. The times of all releases are then counted
+/// from d bit times before it. Each frame of the message ends at most the bound after its release.
 pub fn bounds_hold_for_earlier_releases()
     ensures { (most : ℕ → ℕ) (messages : List Sent) (message : Sent) (bound : ℕ) → EndAlways most messages message bound →
         (d : ℕ) (releases : List Release) (offers : List TimedParts) (hits : List Disturbance) (course : List Transmission) →
