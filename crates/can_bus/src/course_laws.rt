@@ -11,6 +11,7 @@ ghost use Rattle.can_bus.specs.CourseWaiting.{AreInTime, IsSentBy, OnWait, attem
 ghost use Rattle.can_bus.specs.Offers.{AreOffered};
 ghost use Rattle.can_bus.specs.Quiet.{AreDifferent, ascending, busy_time};
 ghost use Rattle.can_bus.specs.Repair.{FallInWindows, repaired_course};
+ghost use Rattle.can_bus.specs.Shifts.{attempts_later, frames_later};
 ghost use Rattle.can_bus.specs.Timed.{AreAtOnce, TimedParts, frames_of, all_offers};
 
 /// Offers and hits have one course at most. It is the one that is computed, if in that one each attempt that is hit
@@ -58,4 +59,11 @@ pub fn waiting_on_a_network_is_bounded()
         (busy_times (going_before offers course place offer t) ≤ busy_times (ahead_of offer.frame t offers)) × (length (going_before offers course place offer t) ≤ length (ahead_of offer.frame t offers)) }
     ensures costs { (hits : List Disturbance) (offers : List TimedParts) (course : List Transmission) → IsCourse hits 0 0 offers course →
         (s : Transmission) → IsMade course s → IsFrame s.frame → keeping s.frame s.hit ≤ busy_time s.frame + 13 }
+{}
+
+/// A course that is shifted in time is a course: if each frame is offered d bit times later, each attempt starts d bit times later, sends
+/// the same frame, and is hit on the same of its levels.
+pub fn a_course_can_be_shifted()
+    ensures { (d : ℕ) (hits : List Disturbance) (offers : List TimedParts) (course : List Transmission) → IsCourse hits 0 0 offers course →
+        IsCourse hits 0 0 (frames_later d offers) (attempts_later d course) }
 {}

@@ -1,6 +1,7 @@
 //! Laws of networks, each a function that does nothing and ensures it.
-ghost use Rattle.std.specs.Prelude.{◌≡◌, ◌≤◌, ℕ, List, length, map};
+ghost use Rattle.std.specs.Prelude.{◌≡◌, ◌+◌, ◌<◌, ◌≤◌, ℕ, List, length, map};
 ghost use Rattle.can_frame.specs.declared.level.Level.{Level};
+ghost use Rattle.can_frame.specs.declared.level.Level.TheVariants.{Recessive};
 ghost use Rattle.can_frame.specs.Parts.{Parts};
 ghost use Rattle.can_frame.specs.IdleRow.{idle_row};
 ghost use Rattle.can_hit.specs.declared.hit.Hit.{Hit as Disturbance};
@@ -14,6 +15,7 @@ ghost use Rattle.can_bus.specs.NetworkPlans.{AllInWindow, AreNoEarlier, IsNetwor
 ghost use Rattle.can_bus.specs.Plans.{PlannedPort, ready_port};
 ghost use Rattle.can_bus.specs.Quiet.{AtEachNode};
 ghost use Rattle.can_bus.specs.Run.{AreLevelsOf, BusState, new_bus};
+ghost use Rattle.can_bus.specs.Shifts.{IsBusAtRest, hits_later, offers_later};
 
 /// A call, bit time by bit time, is a disturbed play over whole lists of levels, whatever its offers and hits: with the
 /// levels that it records there are levels on the wire and levels that the ports saw. The recorded levels, the end
@@ -50,4 +52,17 @@ pub fn a_network_can_be_made()
         IsNetworkCall offers hits (new_bus (map ready_port plans)) (network_course offers hits (map ready_port plans)) }
     ensures comes_back { (f : Parts) (times : List ℕ) (hits : List Disturbance) → AreNoEarlier times → AreInAttempts hits → AreApart 1 hits →
         AllInWindow f hits → length hits ≤ 15 → IsNetworkPlan (offered_again f times) hits (two_ports (length times)) }
+{}
+
+/// A call that is shifted in time is the same call. On a bus at rest, with each offer made and each hit d bit times later, the first d
+/// recorded levels are recessive. From then on the recorded levels, the ports and the refused offers are those of the call as it was.
+pub fn a_call_can_be_shifted()
+    ensures waits { (d : ℕ) (offers : List Offer) (hits : List Disturbance) (bus : BusState) → IsBusAtRest bus → (t : ℕ) → t < d →
+        call_level (offers_later d offers) (hits_later d hits) t bus ≡ Recessive }
+    ensures levels { (d : ℕ) (offers : List Offer) (hits : List Disturbance) (bus : BusState) → IsBusAtRest bus → (t : ℕ) →
+        call_level (offers_later d offers) (hits_later d hits) (d + t) bus ≡ call_level offers hits t bus }
+    ensures bus { (d : ℕ) (offers : List Offer) (hits : List Disturbance) (bus : BusState) → IsBusAtRest bus → (n : ℕ) →
+        (call_after (offers_later d offers) (hits_later d hits) (d + n) bus).bus ≡ (call_after offers hits n bus).bus }
+    ensures refused { (d : ℕ) (offers : List Offer) (hits : List Disturbance) (bus : BusState) → IsBusAtRest bus → (n : ℕ) →
+        call_refused (offers_later d offers) (hits_later d hits) (d + n) bus ≡ call_refused offers hits n bus }
 {}

@@ -23,3 +23,5 @@ pub mod Rows
 pub mod Logs
 pub mod Calls
 pub mod BorneHits
+-- a course whose frames were released before
+pub mod Shifted

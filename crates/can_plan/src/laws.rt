@@ -6,13 +6,15 @@ ghost use Rattle.can_bus.specs.Course.{Transmission, hits_made};
 ghost use Rattle.can_bus.specs.Network.{AllCountAtMost, CourseIsBorne};
 ghost use Rattle.can_bus.specs.Offers.{call_after, call_level};
 ghost use Rattle.can_bus.specs.Quiet.{AtEachNode};
+ghost use Rattle.can_bus.specs.Timed.{TimedParts};
+ghost use Rattle.can_hit.specs.declared.hit.Hit.{Hit as Disturbance};
 ghost use Rattle.can_plan.specs.declared.margin.Strain.{Strain};
 ghost use Rattle.can_plan.specs.declared.message.HitRate.{HitRate};
 ghost use Rattle.can_plan.specs.declared.message.Message.{Message as Sent};
 ghost use Rattle.can_plan.specs.Borne.{AreHitBefore};
-ghost use Rattle.can_plan.specs.Ends.{EndAlways};
+ghost use Rattle.can_plan.specs.Ends.{EndAlways, EndWithinShifted, IsShiftedCourse};
 ghost use Rattle.can_plan.specs.Margins.{EndInTime, MeetDeadlines, messages_under};
-ghost use Rattle.can_plan.specs.Messages.{AreHitAtMost, IsMessageSet};
+ghost use Rattle.can_plan.specs.Messages.{AreHitAtMost, IsMessageSet, Release};
 ghost use Rattle.can_plan.specs.OnBus.{LogNames, OnPlannedCall, StandsWithin};
 
 /// A bound that holds on every course holds on every bus: of each frame of the message the whole wire is recorded, and
@@ -24,6 +26,14 @@ pub fn frames_end_in_time_on_the_bus()
     ensures logs { (most : ℕ → ℕ) (messages : List Sent) (message : Sent) (bound : ℕ) → EndAlways most messages message bound →
         OnPlannedCall most messages message (λ releases place r offers hits bus. (bits : ℕ) → r.released + bound ≤ bits →
         AtEachNode (LogNames offers releases place r) bus.ports (call_after offers hits bits bus).bus.ports) }
+{}
+
+/// A bound also holds for frames that were released before the first bit time of the course. The times of all releases are then counted
+/// from d bit times before it. Each frame of the message ends at most the bound after its release.
+pub fn bounds_hold_for_earlier_releases()
+    ensures { (most : ℕ → ℕ) (messages : List Sent) (message : Sent) (bound : ℕ) → EndAlways most messages message bound →
+        (d : ℕ) (releases : List Release) (offers : List TimedParts) (hits : List Disturbance) (course : List Transmission) →
+        IsShiftedCourse most messages d releases offers hits course → EndWithinShifted d message bound releases offers course }
 {}
 
 /// Where the analysis gives each deadline as a bound, each frame of each message ends within its deadline on every course

@@ -13,7 +13,7 @@
 //! | `parts.rt` | [`latest_frame`], which frame is as late as a bound says, and why: [`Latest`], of `latest.rt` | `specs/Latest.antt` |
 //! | `margin.rt` | [`margin_of`], how much is left until a message misses its deadline: a [`Margin`] of a [`Strain`]; [`first_late`], which one does | `specs/Margins.antt` |
 //! | `borne.rt` | [`borne_for`], for how long a rate of hits is borne wherever they fall | `specs/Borne.antt` |
-//! | `laws.rt` | what a bound says of the levels and logs of a bus; that fifteen hits are borne; that deadlines are kept | `specs/OnBus.antt`, `specs/Borne.antt`, `specs/Margins.antt` |
+//! | `laws.rt` | what a bound says of the levels and logs of a bus, and of frames that were released before; that fifteen hits are borne; that deadlines are kept | `specs/OnBus.antt`, `specs/Ends.antt`, `specs/Borne.antt`, `specs/Margins.antt` |
 //!
 //! The proof goes forward along the course, with a window (`proofs/Windows.antt`): since when the bus has had no older
 //! frame to send of the message and of those before it, and what it has sent since. What each attempt makes of a window
@@ -33,7 +33,10 @@ mod response;
 pub use borne::{Borne, borne_for};
 pub use demand::{arrivals, blocking, own_load};
 pub use latest::Latest;
-pub use laws::{deadlines_are_kept, few_hits_are_borne, frames_end_in_time_on_the_bus};
+pub use laws::{
+    bounds_hold_for_earlier_releases, deadlines_are_kept, few_hits_are_borne,
+    frames_end_in_time_on_the_bus,
+};
 pub use longest::longest_busy;
 pub use margin::{Margin, Strain, first_late, margin_of};
 pub use message::{HitRate, Message};
