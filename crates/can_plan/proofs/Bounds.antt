@@ -7,7 +7,7 @@ use Rattle.can_plan.specs.declared.message.HitRate.{HitRate}
 use Rattle.can_plan.specs.declared.message.Message.{Message}
 use Rattle.can_plan.specs.Messages.{ArePeriodic, most_hits}
 use Rattle.can_plan.specs.Analysis.{Ranking, arrivals, blocking, widest, demand, delayed, busied, IsBound, IsLeast, IsLeastBound}
-use Rattle.can_plan.specs.Steps.{AllEnd, IsBusy, IsEnough}
+use Rattle.can_plan.specs.Steps.{AllEnd, ForRanking, IsBusy, IsEnough}
 use Rattle.can_plan.proofs.Growth.{arrivals-grow, demand-cons, demand-grows}
 
 module _ (rate : HitRate) (block wide : ℕ) (m : Message) (higher : List Message) where
@@ -51,6 +51,16 @@ module _ (rate : HitRate) (block wide : ℕ) (m : Message) (higher : List Messag
   begin-before periodic q d enough some few =
       let step : q ≡ q - 1 + 1 = omega arith in
       earlier periodic (q - 1) d (subst (λ k. Enough k d) step enough)
+
+  -- a busy period has the time on the bus of the first frame within it
+  pub busy-first : ArePeriodic higher → 0 < m.period → 0 < m.longest → (first : ℕ) → ((n : ℕ) → Enough 0 n → first ≤ n) → (n : ℕ) → Busy n → first + m.longest ≤ n
+  busy-first periodic repeated some first least n busy =
+      let long = busy.0 in
+      let few = le-div 1 (n + m.jitter + m.period - 1) m.period repeated (omega arith) in
+      let last = begin-last periodic n busy some (omega arith) in
+      let within = last.0 in
+      let from = from-first periodic first least (arrivals m n - 1) (n - m.longest) last.1 in
+      omega arith
 
   -- what is known of the messages before this one, with it or one behind it that blocks them
   module _ (before : ℕ) (free : (n : ℕ) → 0 < n → demand (most_hits rate) (max (m.longest - 1) block) wide higher n ≤ n → before ≤ n) where
@@ -196,3 +206,13 @@ module _ (rate : HitRate) (limit : ℕ) (ranking : Ranking) (block wide : ℕ) (
         MatchOption result ((other : ℕ) → IsBound (most_hits rate) limit ranking other → ⊥) (λ b. IsLeastBound (most_hits rate) limit ranking b)
     answers None found = none-ends found
     answers (Some bound) found = least-bound bound found
+
+-- the same for each ranking with these numbers
+pub answers-each : (rate : HitRate) (limit block wide : ℕ) (m : Message) (higher : List Message) → 0 < m.period → (long : ℕ) → long ≤ limit → IsLeast (IsBusy (most_hits rate) block wide m higher) long → (result : Option ℕ) →
+    MatchOption result ((q : ℕ) × (q < arrivals m long) × ((n : ℕ) → IsEnough (most_hits rate) block wide m higher q n → limit < n))
+    (λ b. IsLeast (AllEnd (most_hits rate) block wide m higher limit (arrivals m long)) b) →
+    MatchOption result (ForRanking block wide m higher (λ r. (other : ℕ) → IsBound (most_hits rate) limit r other → ⊥)) (λ b. ForRanking block wide m higher (λ r. IsLeastBound (most_hits rate) limit r b))
+answers-each rate limit block wide m higher periodic long within least None found = λ lower is_block is_wide.
+    none-ends rate limit (record { higher = higher; message = m; lower = lower }) block wide is_block is_wide periodic long within least found
+answers-each rate limit block wide m higher periodic long within least (Some bound) found = λ lower is_block is_wide.
+    least-bound rate limit (record { higher = higher; message = m; lower = lower }) block wide is_block is_wide periodic long within least bound found

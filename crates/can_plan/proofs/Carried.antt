@@ -1,6 +1,6 @@
 -- What the busy period of one message says of the next.
 use Rattle.std.proofs.Common.{◌≡◌, ℕ, zero, suc, ◌+◌, ◌-◌, ◌*◌, ◌<◌, ◌≤◌, Some, List, [], ◌∷◌, ◌++◌, ◌⊎◌, get_or, length, take, drop, length-drop, refl, sym, ◌∙◌, ap, subst, inl, inr, arith}
-use Rattle.std.specs.Prelude.{max, fold, slice_get}
+use Rattle.std.specs.Prelude.{max, fold, slice_get, Option, None, MatchOption}
 use Rattle.std.proofs.lemmas.List.{take_all, take_more}
 use Rattle.std.proofs.lemmas.List.Sums.{fold-append, sum_by-append, sum_by-cons}
 use Rattle.std.proofs.lemmas.Nat.{mul-le}
@@ -8,7 +8,7 @@ use Rattle.std.proofs.lemmas.Option.{slice_get-get_or, slice_get_within, get_or_
 use Rattle.can_plan.specs.declared.message.HitRate.{HitRate}
 use Rattle.can_plan.specs.declared.message.Message.{Message}
 use Rattle.can_plan.specs.Messages.{most_hits}
-use Rattle.can_plan.specs.Analysis.{Ranking, arrivals, blocking, busied, demand, greatest, hits_cost, load, ranking_at, widest}
+use Rattle.can_plan.specs.Analysis.{HasBeenFree, IsBusyPeriod, Ranking, arrivals, blocking, busied, demand, greatest, hits_cost, load, ranking_at, widest}
 use Rattle.can_plan.specs.Carried.{IsBusyBefore}
 use Rattle.can_plan.proofs.Growth.{hits-grow}
 
@@ -98,3 +98,23 @@ module _ (rate : HitRate) (ms : List Message) (place busy : ℕ) (next : Message
             (free-before rate ms w.0 m.0 next m.1 (subst (λ p. slice_get ms p ≡ Some next) w.1 there) n
             (subst (λ p. demand (most_hits rate) (max (next.longest - 1) (blocking (ranking_at ms p next))) (widest (ranking_at ms p next)) (take p ms) n ≤ n) w.1 h))
       ]
+
+-- ---- what is told of the place after
+
+-- no busy period is shorter
+at-least : (most : ℕ → ℕ) (limit : ℕ) (r : Ranking) (busy : Option ℕ) (known : ℕ) → IsBusyPeriod most limit r busy → MatchOption busy (known ≡ limit + 1) (λ long. known ≡ long) →
+    (n : ℕ) → HasBeenFree most r n → known ≤ n
+at-least most limit r None known is same n free = let past = is n free in omega (arith, past, same)
+at-least most limit r (Some long) known is same n free = let least = is.1.below n free in omega (arith, least, same)
+
+pub busy-next : (rate : HitRate) (limit : ℕ) (ms : List Message) (place : ℕ) (here : Message) → slice_get ms place ≡ Some here → (busy : Option ℕ) (known : ℕ) →
+    IsBusyPeriod (most_hits rate) limit (ranking_at ms place here) busy → MatchOption busy (known ≡ limit + 1) (λ long. known ≡ long) → IsBusyBefore (most_hits rate) ms (place + 1) known
+busy-next rate limit ms place here there busy known is same = record {
+  first = λ e. absurd (omega (arith, e));
+  next = λ k m n e at some h.
+      let one : k ≡ place = omega (arith, e) in
+      let item : m ≡ here = (let e : Some m ≡ Some here = sym at ∙ ap (slice_get ms) one ∙ there in cc) in
+      let free : busied (most_hits rate) (ranking_at ms place here) n ≤ n =
+      subst (λ x. busied (most_hits rate) (ranking_at ms place x) n ≤ n) item (subst (λ p. busied (most_hits rate) (ranking_at ms p m) n ≤ n) one h) in
+      at-least (most_hits rate) limit (ranking_at ms place here) busy known is same n (some, free);
+}

@@ -50,6 +50,15 @@ module _ (rate : HitRate) (limit : ℕ) (r : Ranking) (block wide : ℕ) (is_blo
         ],
       )
 
+  -- where the first frame has no delay up to the limit, there is no bound
+  pub none-first : 0 < r.message.period → ((n : ℕ) → Enough 0 n → limit < n) → (bound : ℕ) → IsBound (most_hits rate) limit r bound → ⊥
+  none-first some past bound b =
+      let h = b.some in
+      let few = le-div 1 (b.long + r.message.jitter + r.message.period - 1) r.message.period some (omega (arith, h)) in
+      let one = b.each 0 (omega (arith, few)) in
+      let more = past one.0 (from 0 one.0 one.2.delays) in
+      let within = one.1 in absurd (omega (arith, more, within))
+
   pub none-to : 0 < r.message.period → (bound : ℕ) → NoneEnds (most_hits rate) block wide r.message r.higher limit bound → IsLeastBound (most_hits rate) limit r bound → ⊥
   none-to some bound none told =
       let b = told.is in
@@ -74,6 +83,10 @@ module _ (rate : HitRate) (limit : ℕ) (r : Ranking) (block wide : ℕ) (is_blo
       } in
       let again = told.least (bound - 1) lesser in
       absurd (omega (arith, again, positive))
+
+-- there is one least bound
+pub one-bound : (most : ℕ → ℕ) (limit : ℕ) (r : Ranking) (a b : ℕ) → IsLeastBound most limit r a → IsLeastBound most limit r b → a ≡ b
+one-bound most limit r a b first second = omega (arith, first.least b second.is, second.least a first.is)
 
 -- a least delay is all that keeps the bus before it
 kept : (rate : HitRate) (r : Ranking) → ArePeriodic r.higher → (q d : ℕ) → HasDelay (most_hits rate) r q d → d ≡ delayed (most_hits rate) r q d

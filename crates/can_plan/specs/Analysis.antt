@@ -5,7 +5,7 @@
 -- on the bus, T its period, J its jitter; B the blocking by messages behind it in arbitration; hp(m) the messages
 -- before it. All numbers are whole bit times, and a stretch of L bit times is those from t to t + L - 1. Where a
 -- formula has a number more or less than theirs, it is told why.
-use Rattle.std.specs.Prelude.{ℕ, ◌+◌, ◌-◌, ◌*◌, ◌/◌, ◌<◌, ◌≤◌, max, List, ◌∷◌, take, drop, fold}
+use Rattle.std.specs.Prelude.{ℕ, ◌+◌, ◌-◌, ◌*◌, ◌/◌, ◌<◌, ◌≤◌, max, List, ◌∷◌, take, drop, fold, Option, MatchOption}
 use Rattle.std.specs.List.{sum_by}
 use Rattle.can_plan.specs.declared.message.Message.{Message}
 
@@ -59,6 +59,10 @@ demand most time widest messages long = time + load messages long + hits_cost mo
 abbrev pub busied : (ℕ → ℕ) → Ranking → ℕ → ℕ
 busied most r long = demand most (blocking r) (widest r) (r.message ∷ r.higher) long
 
+-- within so many bit times, above 0, it has been free of them
+abbrev pub HasBeenFree : (ℕ → ℕ) → Ranking → ℕ → Type 0
+HasBeenFree most r long = (0 < long) × (busied most r long ≤ long)
+
 -- The delay w of instance q, the frames of the message in a busy period counted from 0: how long behind the period's
 -- begin it starts, where this is w or less. A higher frame that is offered for the bit time in which it would start, w
 -- behind the begin, goes first: so w + 1 bit times are counted, the bit time more for which they have τ_bit.
@@ -89,3 +93,7 @@ pub record IsLeastBound (most : ℕ → ℕ) (limit : ℕ) (r : Ranking) (bound 
 pub record IsLeast (enough : ℕ → Type 0) (least : ℕ) : Type 0 where
   pub is : enough least
   pub below : (n : ℕ) → enough n → least ≤ n
+
+-- the length of the busy period: none if it is above the limit
+abbrev pub IsBusyPeriod : (ℕ → ℕ) → ℕ → Ranking → Option ℕ → Type 0
+IsBusyPeriod most limit r busy = MatchOption busy ((n : ℕ) → HasBeenFree most r n → limit < n) (λ long. (long ≤ limit) × IsLeast (HasBeenFree most r) long)

@@ -1,4 +1,4 @@
--- What the answer for one message of a network says for the next.
+-- What one call of the analysis has found for the next.
 use Rattle.std.specs.Prelude.{ℕ, ◌≡◌, ◌+◌, ◌<◌, ◌≤◌, List, Some, slice_get}
 use Rattle.can_plan.specs.declared.message.Message.{Message}
 use Rattle.can_plan.specs.Analysis.{busied, ranking_at}

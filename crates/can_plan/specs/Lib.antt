@@ -6,8 +6,8 @@ pub mod OnBus
 pub mod Borne
 -- which numbers the analysis gives
 pub mod Analysis
-pub mod Carried
 pub mod Latest
 pub mod Margins
 -- For private calls alone
+pub mod Carried
 pub mod Steps

@@ -1,8 +1,14 @@
 -- What the steps of the analysis compute, by the numbers that they hold.
-use Rattle.std.specs.Prelude.{ℕ, ◌≢◌, ◌+◌, ◌*◌, ◌<◌, ◌≤◌, List, ◌∷◌}
+use Rattle.std.specs.Prelude.{ℕ, ◌≡◌, ◌≢◌, ◌+◌, ◌*◌, ◌<◌, ◌≤◌, List, ◌∷◌}
 use Rattle.can_plan.specs.declared.message.Message.{Message}
-use Rattle.can_plan.specs.Analysis.{IsLeast, arrivals, demand}
+use Rattle.can_plan.specs.Analysis.{IsLeast, Ranking, arrivals, blocking, demand, widest}
 use Rattle.can_plan.specs.Latest.{end_of}
+
+-- it is so of the message among these, whatever messages are lower, if the numbers are those of the ranking: how long lower
+-- messages block, and the greatest time on the bus
+abbrev pub ForRanking : ℕ → ℕ → Message → List Message → (Ranking → Type 0) → Type 0
+ForRanking block wide m higher Claim = (lower : List Message) → let r : Ranking = record { higher = higher; message = m; lower = lower } in
+    block ≡ blocking r → wide ≡ widest r → Claim r
 
 -- by the numbers of a ranking: how long lower messages block, and the greatest time on the bus
 module _ (most : ℕ → ℕ) (block wide : ℕ) (m : Message) (higher : List Message) where

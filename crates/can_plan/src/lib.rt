@@ -9,7 +9,8 @@
 //! | `message.rt` | [`Message`] and [`HitRate`] | `specs/Messages.antt` |
 //! | `longest.rt` | [`longest_busy`], how long a frame keeps the bus | `specs/FramesOf.antt` |
 //! | `demand.rt` | what keeps the bus in a stretch of bit times: [`arrivals`] of a message; [`blocking`] by the messages behind one | `specs/Analysis.antt` |
-//! | `response.rt` | [`response_bound`], the least bound that the analysis gives; [`response_after`], one message after another | `specs/Analysis.antt`, `specs/Ends.antt`, `specs/Carried.antt` |
+//! | `response.rt` | [`response_bound`], the least bound that the analysis gives | `specs/Analysis.antt`, `specs/Ends.antt` |
+//! | `responses.rt` | [`Responses`], the same for one message after another | `specs/Analysis.antt`, `specs/Ends.antt` |
 //! | `parts.rt` | [`latest_frame`], which frame is as late as a bound says, and why: [`Latest`], of `latest.rt` | `specs/Latest.antt` |
 //! | `margin.rt` | [`margin_of`], how much is left until a message misses its deadline: a [`Margin`] of a [`Strain`]; [`first_late`], which one does | `specs/Margins.antt` |
 //! | `borne.rt` | [`borne_for`], for how long a rate of hits is borne wherever they fall | `specs/Borne.antt` |
@@ -29,6 +30,7 @@ mod margin;
 mod message;
 mod parts;
 mod response;
+mod responses;
 
 pub use borne::{Borne, borne_for};
 pub use demand::{arrivals, blocking, own_load};
@@ -41,4 +43,5 @@ pub use longest::longest_busy;
 pub use margin::{Margin, Strain, first_late, margin_of};
 pub use message::{HitRate, Message};
 pub use parts::latest_frame;
-pub use response::{Response, response_after, response_bound};
+pub use response::{Response, response_bound};
+pub use responses::Responses;

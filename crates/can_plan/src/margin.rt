@@ -58,11 +58,11 @@ fn first_late_from(
 {
     let mut busy = 0;
     for place in from..messages.len().min(deadlines.len()) {
-        let response = response_after(busy, messages, place, rate, limit);
+        let (response, next) = response_after(busy, messages, place, rate, limit);
         if misses_deadline(u64::from(deadlines[place]), response.bound) {
             return Some(place);
         }
-        busy = response.busy;
+        busy = next;
     }
     None
 }

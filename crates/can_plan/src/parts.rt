@@ -1,5 +1,6 @@
 //! What makes a bound.
-ghost use Rattle.std.specs.Prelude.{◌≡◌, ◌*◌, ◌+◌, ◌^◌, ◌<◌, ◌≤◌, ℕ, IfSome, MatchOption, Some, slice_get};
+ghost use Rattle.std.specs.Prelude.{◌≡◌, ◌*◌, ◌+◌, ◌^◌, ◌<◌, ◌≤◌, ℕ, IfSome, IsFalse, IsNone, MatchOption, Some, length, nat_lt, slice_get};
+ghost use Rattle.std.specs.List.{list_all};
 ghost use Rattle.can_plan.specs.declared.message.Message.{Message as Sent};
 ghost use Rattle.can_plan.specs.Analysis.{IsLeast, IsLeastBound, Ranking, ranking_at};
 ghost use Rattle.can_plan.specs.Latest.{IsLatest, end_of, sum_of_parts};
@@ -9,11 +10,13 @@ ghost use Rattle.can_plan.specs.Steps.{EndsElse, IsEnough, NoneEnds};
 use crate::demand::{arrivals, blocking, hits, hits_cost, widest};
 use crate::latest::Latest;
 use crate::message::{HitRate, Message};
-use crate::response::{are_periodic, delay, end};
+use crate::response::{are_periodic, bound_from, delay, end};
 
-/// The first frame of a busy period that ends as late as the bound says, and its delay.
+/// The first frame of a busy period whose wire ends `bound` bit times after its release, and its delay. The first frame has
+/// no delay below `first`.
 fn first_to_end(
     bound: u64,
+    first: u64,
     blocking: u16,
     widest: u16,
     message: &Message,
@@ -23,13 +26,14 @@ fn first_to_end(
 ) -> Option<(u64, u32)>
     requires first { 0 < message.now.period }
     requires periodic { ArePeriodic higher.now }
+    requires begun { (n : ℕ) → IsEnough (most_hits_of rate.now) blocking widest message.now higher.now 0 n → first ≤ n }
     ensures first_found { MatchOption result (NoneEnds (most_hits_of rate.now) blocking widest message.now higher.now limit bound)
         (λ f. IsLeast (IsEnough (most_hits_of rate.now) blocking widest message.now higher.now f.0) f.1 × (end_of message.now f.0 f.1 ≡ bound)
         × ((k : ℕ) → k < f.0 → EndsElse (most_hits_of rate.now) blocking widest message.now higher.now limit bound k)) }
     ensures small { IfSome result (λ f. (f.0 < 2 ^ 34) × (f.0 * message.now.period ≤ 2 ^ 34)) }
 {
     let longest = u64::from(message.longest);
-    let mut from = 0;
+    let mut from = first;
     for number in 0..arrivals(message, u64::from(limit)) {
         let before = u64::from(blocking) + number * longest;
         let delay = delay(from, before, widest, higher, rate, limit)?;
@@ -41,7 +45,8 @@ fn first_to_end(
     None
 }
 
-/// The latest frame of this message, by the messages that go before it and those that go behind it.
+/// The latest frame of this message, if `bound` is its least bound. The messages before it in arbitration are `higher`, the
+/// others `lower`.
 fn ranked_latest(
     bound: u64,
     higher: &[Message],
@@ -52,12 +57,22 @@ fn ranked_latest(
 ) -> Option<Latest>
     requires first { 0 < message.now.period }
     requires periodic { ArePeriodic higher.now }
-    ensures { let ranking : Ranking = record { higher = higher.now; message = message.now; lower = lower.now } in
+    ensures latest { let ranking : Ranking = record { higher = higher.now; message = message.now; lower = lower.now } in
         MatchOption result (¬ IsLeastBound (most_hits_of rate.now) limit ranking bound) (λ latest. IsLatest (most_hits_of rate.now) ranking bound latest) }
+    ensures least { let ranking : Ranking = record { higher = higher.now; message = message.now; lower = lower.now } in
+        IfSome result (λ latest. IsLeastBound (most_hits_of rate.now) limit ranking bound) }
 {
     let blocking = blocking(lower);
     let widest = widest(message.longest, higher);
-    let (number, delay) = first_to_end(bound, blocking, widest, message, higher, rate, limit)?;
+    let first = delay(0, u64::from(blocking), widest, higher, rate, limit)?;
+    let least = bound_from(first, blocking, widest, message, higher, rate, limit)?;
+    if least != bound {
+        return None;
+    }
+    let first = u64::from(first);
+    let (number, delay) = first_to_end(
+        bound, first, blocking, widest, message, higher, rate, limit,
+    )?;
     let long = u64::from(delay) + 1;
     Some(Latest {
         number,
@@ -70,13 +85,18 @@ fn ranked_latest(
     })
 }
 
-/// Which frame of the message at this place is as late as `bound` says, which is what [`crate::response_bound`] answers
-/// of it: of the frames in a busy period the first. The bound is the sum of its parts: the jitter, the blocking, `earlier`,
-/// what [`crate::own_load`] says of each message before it in arbitration for one bit time more than its delay,
-/// `hits_cost`, and its wire, which is `longest` less three bit times; less `later`. None where the bound is another one, where there is no such
-/// place, and where a period is 0.
+/// The latest frame of the message at this place: of the frames in a busy period the first whose wire ends `bound` bit times
+/// after its release. There is one exactly if `bound` is the message's least bound, which [`crate::response_bound`]
+/// returns. It is none for any other number, if there is no such place, and if a period is 0.
 ///
-/// Its work is in proportion to the messages and to the frames of this one up to the latest.
+/// The bound is the sum of these parts, less `later`:
+/// - the jitter and the blocking
+/// - `earlier`
+/// - what [`crate::own_load`] returns for each message before it in arbitration, for one bit time more than the delay
+/// - `hits_cost`
+/// - its wire, which is `longest` less three bit times
+///
+/// Its work is that of [`crate::response_bound`], and in proportion to the frames of this message before the latest one.
 pub fn latest_frame(
     bound: u64,
     messages: &[Message],
@@ -86,8 +106,12 @@ pub fn latest_frame(
 ) -> Option<Latest>
     ensures latest { (message : Sent) → slice_get messages.now place ≡ Some message → ArePeriodic messages.now → let ranking = ranking_at messages.now place message in
         MatchOption result (¬ IsLeastBound (most_hits_of rate.now) limit ranking bound) (λ latest. IsLatest (most_hits_of rate.now) ranking bound latest) }
+    ensures least { (message : Sent) → slice_get messages.now place ≡ Some message → ArePeriodic messages.now →
+        IfSome result (λ latest. IsLeastBound (most_hits_of rate.now) limit (ranking_at messages.now place message) bound) }
     ensures parts { (message : Sent) → slice_get messages.now place ≡ Some message → ArePeriodic messages.now →
         IfSome result (λ latest. bound ≡ sum_of_parts (ranking_at messages.now place message) latest) }
+    ensures absent { length messages.now ≤ place → IsNone result }
+    ensures aperiodic { IsFalse (list_all (λ m. nat_lt 0 m.period) messages.now) → IsNone result }
 {
     if place >= messages.len() || !are_periodic(messages) {
         return None;

@@ -2,12 +2,12 @@
 ghost use Rattle.std.specs.Prelude.{◌≡◌, ◌+◌, ◌-◌, ◌*◌, ◌^◌, ◌<◌, ◌≤◌, ◌∷◌, ℕ, IfSome, IsFalse, IsNone, MatchOption, Some, length, max, min, nat_lt, slice_get};
 ghost use Rattle.std.specs.List.{list_all};
 ghost use Rattle.can_plan.specs.declared.message.Message.{Message as Sent};
-ghost use Rattle.can_plan.specs.Analysis.{IsBound, IsLeast, IsLeastBound, Ranking, arrivals as arrivals_of, blocking as blocking_of, busied, demand as demand_of, ranking_at, widest as widest_of};
+ghost use Rattle.can_plan.specs.Analysis.{IsBound, IsBusyPeriod, IsLeast, IsLeastBound, Ranking, arrivals as arrivals_of, blocking as blocking_of, demand as demand_of, ranking_at, widest as widest_of};
 ghost use Rattle.can_plan.specs.Carried.{IsBusyBefore};
 ghost use Rattle.can_plan.specs.Ends.{EndAlways};
 ghost use Rattle.can_plan.specs.Latest.{end_of};
 ghost use Rattle.can_plan.specs.Messages.{ArePeriodic, IsMessageSet, most_hits as most_hits_of};
-ghost use Rattle.can_plan.specs.Steps.{AllEnd, IsBusy, IsEnough};
+ghost use Rattle.can_plan.specs.Steps.{AllEnd, ForRanking, IsBusy, IsEnough};
 
 use crate::demand::{arrivals, blocking, demand, own_load, widest};
 use crate::longest::INTERMISSION;
@@ -132,18 +132,53 @@ fn latest_end(
     Some(bound)
 }
 
-/// What the analysis answers of a message: the least bound on the time from the release of one of its frames to the end
-/// of its wire, if it gives one, and a number of bit times that is no more than its busy period has.
-#[derive(Clone, Copy, Debug)]
-pub struct Response {
-    /// The least bound, as [`response_bound`] answers it.
-    pub bound: Option<u64>,
-    /// No busy period of the message is shorter.
-    pub busy: u64,
+/// The least bound of a message; none if the analysis gives no bound. Given are how long lower messages block it, the
+/// longest time on the bus of it and the higher ones, and a number that no delay of its first frame is below.
+pub(crate) fn bound_from(
+    first: u32,
+    blocking: u16,
+    widest: u16,
+    message: &Message,
+    higher: &[Message],
+    rate: &HitRate,
+    limit: u32,
+) -> Option<u64>
+    requires first { 0 < message.now.period }
+    requires periodic { ArePeriodic higher.now }
+    requires begun { (n : ℕ) → IsEnough (most_hits_of rate.now) blocking widest message.now higher.now 0 n → first ≤ n }
+    ensures { MatchOption result (ForRanking blocking widest message.now higher.now (λ ranking. (other : ℕ) → IsBound (most_hits_of rate.now) limit ranking other → ⊥))
+        (λ b. ForRanking blocking widest message.now higher.now (λ ranking. IsLeastBound (most_hits_of rate.now) limit ranking b)) }
+{
+    let first = u64::from(first);
+    let from = busy_after(first, message.longest);
+    let long = busy(from, blocking, widest, message, higher, rate, limit)?;
+    latest_end(first, long, blocking, widest, message, higher, rate, limit)
 }
 
-/// The answer for this message, by the messages that go before it and those that go behind it. Where this one or one behind
-/// it blocks those before it, none of their busy periods is shorter than `before`.
+/// Below which number there is no busy period of a message whose first frame has no less delay than `first`: the frame has
+/// its time on the bus within it.
+fn busy_after(first: u64, longest: u16) -> u64
+    requires { first < 2 ^ 32 }
+    ensures { (n : ℕ) → (0 < longest → first + longest ≤ n) → result ≤ n }
+{
+    if longest == 0 {
+        0
+    } else {
+        first + u64::from(longest)
+    }
+}
+
+/// What the analysis gives for a message.
+#[derive(Clone, Copy, Debug)]
+pub struct Response {
+    /// The least bound on the time from the release of a frame to the end of its wire, which [`response_bound`] returns.
+    pub bound: Option<u64>,
+    /// The length of the busy period in bit times; none if it is above the limit.
+    pub busy: Option<u32>,
+}
+
+/// What the analysis gives for this message. The messages before it in arbitration are `higher`, the others `lower`. If this
+/// message or a lower one blocks the higher ones, none of their busy periods is shorter than `before`.
 fn ranked_response(
     before: u64,
     higher: &[Message],
@@ -158,7 +193,7 @@ fn ranked_response(
         (n : ℕ) → 0 < n → demand_of (most_hits_of rate.now) (max (message.now.longest - 1) (blocking_of ranking)) (widest_of ranking) higher.now n ≤ n → before ≤ n }
     ensures bound { let ranking : Ranking = record { higher = higher.now; message = message.now; lower = lower.now } in
         MatchOption result.bound ((other : ℕ) → IsBound (most_hits_of rate.now) limit ranking other → ⊥) (λ b. IsLeastBound (most_hits_of rate.now) limit ranking b) }
-    ensures busy { (n : ℕ) → 0 < n → busied (most_hits_of rate.now) (record { higher = higher.now; message = message.now; lower = lower.now }) n ≤ n → result.busy ≤ n }
+    ensures busy { IsBusyPeriod (most_hits_of rate.now) limit (record { higher = higher.now; message = message.now; lower = lower.now }) result.busy }
 {
     let blocking = blocking(lower);
     let widest = widest(message.longest, higher);
@@ -166,13 +201,13 @@ fn ranked_response(
     let Some(long) = busy(from, blocking, widest, message, higher, rate, limit) else {
         return Response {
             bound: None,
-            busy: u64::from(limit) + 1,
+            busy: None,
         };
     };
     let from = first_delay(before, blocking, message.longest);
     Response {
         bound: latest_end(from, long, blocking, widest, message, higher, rate, limit),
-        busy: u64::from(long),
+        busy: Some(long),
     }
 }
 
@@ -214,15 +249,16 @@ pub(crate) fn are_periodic(messages: &[Message]) -> bool
     messages.iter().all(|message| message.period > 0)
 }
 
-/// How many bit times lie between the release of a frame of the message at this place and the end of its wire, at most,
-/// where the messages stand in the order of arbitration, no two of one field and none with a `longest` of 0: the least
-/// bound that the analysis gives with numbers up to the limit; none where it gives none, where there is no such place,
-/// and where a period is 0. It holds on every course of the bus, as long as releases keep to the messages, and hits to
-/// the rate.
+/// The bound of the message at this place: at most so many bit times after its release the wire of each of its frames ends.
+/// It is the least bound that the analysis gives with numbers up to the limit. It is none if the analysis gives none, if
+/// there is no such place, and if a period is 0.
+///
+/// The bound holds on every course of the bus if
+/// - the messages are in the order of arbitration, no two of one field, and none with a `longest` of 0
+/// - the releases keep to the messages, and the hits to the rate
 ///
 /// Its work is in proportion to the messages, to the frames of this one in a busy period, and to the steps of the sums
-/// that grow up to the limit. Where all messages of a network are asked for one after another, [`response_after`] takes
-/// fewer steps.
+/// that grow up to the limit. For all messages of a network [`crate::Responses`] takes fewer steps.
 pub fn response_bound(messages: &[Message], place: usize, rate: &HitRate, limit: u32) -> Option<u64>
     ensures least { (message : Sent) → slice_get messages.now place ≡ Some message → ArePeriodic messages.now → let ranking = ranking_at messages.now place message in
         MatchOption result ((other : ℕ) → IsBound (most_hits_of rate.now) limit ranking other → ⊥) (λ b. IsLeastBound (most_hits_of rate.now) limit ranking b) }
@@ -231,39 +267,54 @@ pub fn response_bound(messages: &[Message], place: usize, rate: &HitRate, limit:
     ensures holds { (message : Sent) → slice_get messages.now place ≡ Some message → IsMessageSet messages.now →
         IfSome result (λ b. EndAlways (most_hits_of rate.now) messages.now message b) }
 {
-    response_after(0, messages, place, rate, limit).bound
+    let (response, _) = response_after(0, messages, place, rate, limit);
+    response.bound
 }
 
-/// The bound that [`response_bound`] answers for the message at this place, found by what the answer for the one before
-/// it says of the busy period: `before` is its `busy`, or 0.
-pub fn response_after(
+/// What the analysis gives for the message at this place, and a number for the next call: no busy period of this message is
+/// shorter. `before` is that number for the message before it, or 0.
+pub(crate) fn response_after(
     before: u64,
     messages: &[Message],
     place: usize,
     rate: &HitRate,
     limit: u32,
-) -> Response
+) -> (Response, u64)
     requires { IsBusyBefore (most_hits_of rate.now) messages.now place before }
     ensures least { (message : Sent) → slice_get messages.now place ≡ Some message → ArePeriodic messages.now → let ranking = ranking_at messages.now place message in
-        MatchOption result.bound ((other : ℕ) → IsBound (most_hits_of rate.now) limit ranking other → ⊥) (λ b. IsLeastBound (most_hits_of rate.now) limit ranking b) }
-    ensures absent { length messages.now ≤ place → IsNone result.bound }
-    ensures aperiodic { IsFalse (list_all (λ m. nat_lt 0 m.period) messages.now) → IsNone result.bound }
+        MatchOption result.0.bound ((other : ℕ) → IsBound (most_hits_of rate.now) limit ranking other → ⊥) (λ b. IsLeastBound (most_hits_of rate.now) limit ranking b) }
+    ensures busy { (message : Sent) → slice_get messages.now place ≡ Some message → ArePeriodic messages.now →
+        IsBusyPeriod (most_hits_of rate.now) limit (ranking_at messages.now place message) result.0.busy }
+    ensures absent { length messages.now ≤ place → IsNone result.0.bound × IsNone result.0.busy }
+    ensures aperiodic { IsFalse (list_all (λ m. nat_lt 0 m.period) messages.now) → IsNone result.0.bound × IsNone result.0.busy }
     ensures holds { (message : Sent) → slice_get messages.now place ≡ Some message → IsMessageSet messages.now →
-        IfSome result.bound (λ b. EndAlways (most_hits_of rate.now) messages.now message b) }
-    ensures busy { IsBusyBefore (most_hits_of rate.now) messages.now (place + 1) result.busy }
+        IfSome result.0.bound (λ b. EndAlways (most_hits_of rate.now) messages.now message b) }
+    ensures next { IsBusyBefore (most_hits_of rate.now) messages.now (place + 1) result.1 }
 {
     if place >= messages.len() || !are_periodic(messages) {
-        return Response {
+        let none = Response {
             bound: None,
-            busy: 0,
+            busy: None,
         };
+        return (none, 0);
     }
-    ranked_response(
+    let response = ranked_response(
         before,
         &messages[..place],
         &messages[place],
         &messages[place + 1..],
         rate,
         limit,
-    )
+    );
+    (response, least_busy(response.busy, limit))
+}
+
+/// No busy period is shorter than this, if it is `busy` with numbers up to the limit.
+fn least_busy(busy: Option<u32>, limit: u32) -> u64
+    ensures { MatchOption busy (result ≡ limit + 1) (λ long. result ≡ long) }
+{
+    match busy {
+        Some(long) => u64::from(long),
+        None => u64::from(limit) + 1,
+    }
 }

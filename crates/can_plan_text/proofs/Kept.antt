@@ -33,6 +33,25 @@ kept-by most messages m deadline (Some b) holds ok = λ releases hits course is 
     let early : b ≤ deadline = ltb-false deadline b ok in
     let within = ends.2 in (ends.0, ends.1, omega (arith, early, within))
 
+-- ---- what the analysis gives at a place of its own messages
+
+module _ (bound : Option ℕ) where
+  abbrev pub GivesLeast : List Message → HitRate → ℕ → ℕ → Type 0
+  GivesLeast messages rate limit place = (m : Message) → slice_get messages place ≡ Some m → ArePeriodic messages →
+      MatchOption bound ((other : ℕ) → IsBound (most_hits rate) limit (ranking_at messages place m) other → ⊥) (λ b. IsLeastBound (most_hits rate) limit (ranking_at messages place m) b)
+
+  abbrev pub GivesHolding : List Message → HitRate → ℕ → Type 0
+  GivesHolding messages rate place = (m : Message) → slice_get messages place ≡ Some m → IsMessageSet messages → IfSome bound (λ b. EndAlways (most_hits rate) messages m b)
+
+  module _ (its messages : List Message) (rate : HitRate) (until until_here at place : ℕ) (same : its ≡ messages) (as_far : until ≡ until_here) (here : at ≡ place) where
+    pub least-here : GivesLeast its rate until at → GivesLeast messages rate until_here place
+    least-here given =
+        subst (λ p. GivesLeast messages rate until_here p) here
+        (subst (λ l. GivesLeast messages rate l at) as_far (subst (λ (ms : List Message). GivesLeast ms rate until at) same given))
+
+    pub holding-here : GivesHolding its rate at → GivesHolding messages rate place
+    holding-here given = subst (λ p. GivesHolding messages rate p) here (subst (λ (ms : List Message). GivesHolding ms rate at) same given)
+
 -- ---- one message more
 
 -- what is said of the message at a place, by these messages and this rate

@@ -60,7 +60,7 @@ abbrev pub end_text : Option Name → List ℕ
 end_text None = codes "\n"
 end_text (Some name) = quoted_text (name_bytes name)
 
--- `S 100 D 7 longest 125 blocking 124`, bound and deadline, and the name
+-- `S 100 D 7 longest 122 blocking 121`, bound and deadline, and the name
 unfoldable pub message_line : Verdict → List ℕ
 message_line v =
     message_head v.planned ++ (codes " longest " ++ (decimal v.planned.message.longest ++

@@ -6,7 +6,7 @@ ghost use Rattle.can_plan_text.specs.Plans.{messages_of as messages_in};
 
 use crate::plan::{Plan, Planned};
 use crate::verdict::{Analysis, Verdict};
-use can_plan::{Borne, HitRate, Message, blocking, borne_for, response_after};
+use can_plan::{Borne, HitRate, Message, Responses, blocking, borne_for};
 use std::alloc::{AllocError, Global};
 
 /// Up to which number of bit times a bound is looked for.
@@ -45,18 +45,17 @@ pub(crate) fn messages_of(alloc: Global, planned: &[Planned]) -> Result<Vec<Mess
     Ok(messages)
 }
 
-/// What is answered of each message of a network. Each message's answer tells the next where to begin.
+/// What is answered of each message of a network.
 fn judge_each(alloc: Global, plan: &Plan, messages: &[Message]) -> Result<Vec<Verdict>, AllocError>
     requires { messages.now ≡ messages_in plan.now.messages.items }
     ensures { IfOk result (λ verdicts. AreVerdicts plan.now (length plan.now.messages.items) verdicts.items) }
 {
     let rate = plan.hit_rate();
     let mut verdicts = Vec::new(alloc);
-    let mut busy = 0;
+    let mut responses = Responses::new(messages, 0, &rate, LIMIT);
     for (place, planned) in plan.messages.iter().enumerate() {
-        let response = response_after(busy, messages, place, &rate, LIMIT);
+        let response = responses.next_response();
         verdicts.push(judge(planned, place, messages, response.bound))?;
-        busy = response.busy;
     }
     Ok(verdicts)
 }

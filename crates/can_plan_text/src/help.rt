@@ -27,15 +27,16 @@ each message how long behind its release a frame ends at most:
   name = 'Speed'       its own, of 64 characters at most; it may be left out
 
 The answer is a line for the whole, one for each message in the order of
-arbitration, and one for the whole again, with all times in bit times:
-  network messages 3 load 0.972 rate 0
-  S 100 D 7 longest 125 blocking 124 bound 246 deadline 312 slack 66 ok
-  S 200 D 7 longest 125 blocking 124 bound 371 deadline 437 slack 66 ok
-  S 300 D 7 longest 125 blocking 0 bound 435 deadline 437 slack 2 ok
-  load 0.972 late 0 of 3
+arbitration, and one for the whole again, with all times in bit times. For
+S 100 D, S 200 D and S 300 D with dlc 7 and periods of 303, 427 and 427:
+  network messages 3 load 0.971 rate 0
+  S 100 D 7 longest 122 blocking 121 bound 240 deadline 303 slack 63 ok
+  S 200 D 7 longest 121 blocking 121 bound 361 deadline 427 slack 66 ok
+  S 300 D 7 longest 122 blocking 0 bound 422 deadline 427 slack 5 ok
+  load 0.971 late 0 of 3
 late stands for ok where the bound is above the deadline, or is none. A name
 ends its line, as name \"Speed\". With errors a last line tells for how long
-no port can become error passive:
+no port can become error passive, here for burst 1 and spacing 10000:
   hits at most 15 within 149999
 
 With --details lines below each message tell which frame of a busy period is the

@@ -10,12 +10,12 @@ loop-place-init c = (λ periodic k less. c.requires k less, (record { first = λ
 
 pub returns-then-misses_deadline-clause-first : goal.returns-then-misses_deadline-clause-first
 returns-then-misses_deadline-clause-first c = λ periodic.
-    let bound = c.response_after-response.result.bound in
+    let bound = c.response_after-next.result.0.bound in
     let deadline : ℕ = get_or c.args.deadlines.now c.loop-place.place 0 in
     let due : c.loop-place.place < length c.args.deadlines.now = omega (arith, c.loop-place-test.true, c.min-place-end.ensures) in
     let here : c.loop-place.place < length c.args.messages.now = omega (arith, c.loop-place-test.true, c.min-place-end.ensures) in
     let above : misses_deadline deadline bound ≡ true = ap (λ d. misses_deadline d bound) (sym c.from.ensures) ∙ sym c.misses_deadline.ensures ∙ c.if-misses_deadline.true in
-    first-here c.args.rate.now c.args.limit c.args.messages.now c.args.deadlines.now c.loop-place.place bound c.response_after-response.ensures.least deadline
+    first-here c.args.rate.now c.args.limit c.args.messages.now c.args.deadlines.now c.loop-place.place bound c.response_after-next.ensures.least deadline
     (slice_get-get_or c.args.deadlines.now c.loop-place.place 0 due) here above periodic (c.loop-place.invariant.0 periodic)
 
 pub returns-then-misses_deadline-clause-aperiodic : goal.returns-then-misses_deadline-clause-aperiodic
@@ -28,21 +28,21 @@ loop-place-preserved c = (
     | inl before ↦ c.loop-place.invariant.0 periodic k before
     | inr not ↦
         let same : c.loop-place.place ≡ k = omega (arith, less, not) in
-        let bound = c.response_after-response.result.bound in
+        let bound = c.response_after-next.result.0.bound in
         let deadline : ℕ = get_or c.args.deadlines.now c.loop-place.place 0 in
         let due : c.loop-place.place < length c.args.deadlines.now = omega (arith, c.loop-place-test.true, c.min-place-end.ensures) in
         let within : misses_deadline deadline bound ≡ false = ap (λ d. misses_deadline d bound) (sym c.from.ensures) ∙ sym c.misses_deadline.ensures ∙ c.if-misses_deadline.false in
         subst (λ n. MeetsDeadline c.args.rate.now c.args.limit c.args.messages.now c.args.deadlines.now n) same
-        (met-here c.args.rate.now c.args.limit c.args.messages.now c.args.deadlines.now c.loop-place.place bound c.response_after-response.ensures.least deadline
+        (met-here c.args.rate.now c.args.limit c.args.messages.now c.args.deadlines.now c.loop-place.place bound c.response_after-next.ensures.least deadline
         (slice_get-get_or c.args.deadlines.now c.loop-place.place 0 due) within periodic)
   ],
   (
-    c.response_after-response.ensures.busy,
+    c.response_after-next.ensures.next,
     λ none.
         let deadline : ℕ = get_or c.args.deadlines.now c.loop-place.place 0 in
-        let over : misses_deadline deadline c.response_after-response.result.bound ≡ true = unbounded deadline c.response_after-response.result.bound (c.response_after-response.ensures.aperiodic none) in
-        let within : misses_deadline deadline c.response_after-response.result.bound ≡ false =
-        ap (λ d. misses_deadline d c.response_after-response.result.bound) (sym c.from.ensures) ∙ sym c.misses_deadline.ensures ∙ c.if-misses_deadline.false in
+        let over : misses_deadline deadline c.response_after-next.result.0.bound ≡ true = unbounded deadline c.response_after-next.result.0.bound (c.response_after-next.ensures.aperiodic none).0 in
+        let within : misses_deadline deadline c.response_after-next.result.0.bound ≡ false =
+        ap (λ d. misses_deadline d c.response_after-next.result.0.bound) (sym c.from.ensures) ∙ sym c.misses_deadline.ensures ∙ c.if-misses_deadline.false in
         absurd (let h : true ≡ false = sym over ∙ within in cc),
   ),
 )

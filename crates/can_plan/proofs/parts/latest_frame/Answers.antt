@@ -1,5 +1,5 @@
 use Rattle.std.proofs.Common.{◌≡◌, true, false, Some, ap, arith, subst, sym, ◌∙◌}
-use Rattle.std.specs.Prelude.{MatchOption, slice_get}
+use Rattle.std.specs.Prelude.{IfSome, MatchOption, slice_get}
 use Rattle.std.proofs.lemmas.Option.{slice_get-get_or, slice_get_within}
 use Rattle.can_plan.specs.declared.message.Message.{Message}
 use Rattle.can_plan.specs.Messages.{most_hits}
@@ -30,7 +30,15 @@ returns-clause-latest c = λ message at periodic.
     let same : item ≡ message = (let e : Some item ≡ Some message = sym there ∙ at in cc) in
     let Answers : Ranking → Type 0 = λ r.
     MatchOption c.ranked_latest.result (IsLeastBound (most_hits c.args.rate.now) c.args.limit r c.args.bound → ⊥) (λ latest. IsLatest (most_hits c.args.rate.now) r c.args.bound latest) in
-    subst (λ m. Answers (ranking_at c.args.messages.now c.args.place m)) same (subst Answers (ranking-here c.args.messages.now c.args.place item) c.ranked_latest.ensures)
+    subst (λ m. Answers (ranking_at c.args.messages.now c.args.place m)) same (subst Answers (ranking-here c.args.messages.now c.args.place item) c.ranked_latest.ensures.latest)
+
+pub returns-clause-least : goal.returns-clause-least
+returns-clause-least c = λ message at periodic.
+    let item : Message = c.index-messages-place.result in
+    let there : slice_get c.args.messages.now c.args.place ≡ Some item = slice_get-get_or c.args.messages.now c.args.place item c.if-place-messages.false ∙ sym (ap Some c.index-messages-place.is) in
+    let same : item ≡ message = (let e : Some item ≡ Some message = sym there ∙ at in cc) in
+    let Answers : Ranking → Type 0 = λ r. IfSome c.ranked_latest.result (λ latest. IsLeastBound (most_hits c.args.rate.now) c.args.limit r c.args.bound) in
+    subst (λ m. Answers (ranking_at c.args.messages.now c.args.place m)) same (subst Answers (ranking-here c.args.messages.now c.args.place item) c.ranked_latest.ensures.least)
 
 pub returns-clause-parts : goal.returns-clause-parts
 returns-clause-parts c = λ message at periodic.
