@@ -41,7 +41,7 @@ def read_more(crate: str) -> MoreEdits:
     head, *blocks = text.removesuffix("\n").split("\n\n")
     named = (it.partition("\n") for it in blocks)
     more = MoreEdits(head.removeprefix(TRIED), {name: f"{edit}\n" for name, _, edit in named})
-    if more.text() != text:
+    if more.text() != text or "\n" in more.tried:
         raise ValueError(f"{path} is not laid out as docs/EDITS.md says, or not in the order of the names")
     return more
 
