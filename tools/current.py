@@ -10,6 +10,7 @@ import hashlib
 import os
 import shutil
 
+from editing import read_more
 from repository import TOP
 
 
@@ -21,20 +22,22 @@ def put(built: str, to: str, begun: int) -> None:
 
 
 def sum_of(crate: str) -> str:
-    """A sum of what a crate's edits are tried on, and of the edits."""
-    told = ""
-    for path in _tried(crate):
-        with open(f"{TOP}/crates/{crate}/{path}", "rb") as it:
-            told += f"{hashlib.sha256(it.read()).hexdigest()}  {path}\n"
+    """A sum of what a crate's edits of more-edits/ are tried on, and of each of them, as if it were a file."""
+    folder = f"{TOP}/crates/{crate}"
+    texts = {f"more-edits/{name}.edit": edit.encode() for name, edit in read_more(folder).edits.items()}
+    for path in _tried(folder):
+        with open(path, "rb") as it:
+            texts[os.path.relpath(path, folder)] = it.read()
+    told = "".join(f"{hashlib.sha256(text).hexdigest()}  {path}\n" for path, text in sorted(texts.items()))
     return hashlib.sha256(told.encode()).hexdigest()[:16]
 
 
-def _tried(crate: str) -> list[str]:
-    """The files that an edit's trial depends on, and the edits: src/ but its tests, specs/, more-edits/."""
-    return sorted(
-        os.path.relpath(f"{at}/{name}", f"{TOP}/crates/{crate}")
-        for part in ("src", "specs", "more-edits")
-        for at, _, names in os.walk(f"{TOP}/crates/{crate}/{part}")
+def _tried(folder: str) -> list[str]:
+    """The files of a crate that an edit's trial depends on: src/ but its tests, and specs/."""
+    return [
+        f"{at}/{name}"
+        for part in ("src", "specs")
+        for at, _, names in os.walk(f"{folder}/{part}")
         for name in names
-        if name not in ("tests.rt", "TRIED") and "tests" not in at.split("/")
-    )
+        if name != "tests.rt" and "tests" not in at.split("/")
+    ]

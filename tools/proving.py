@@ -1,9 +1,12 @@
 """Proves crates from nothing, side by side.
 
-In one tree rt proves one crate behind the other, as it holds a crate and all below it as long as it proves. So here each
-crate has a folder of its own, with the sources of those below it and what rt left of them (`out`), and one call of
+In one tree rt proves one crate after the other, since it holds a crate and all below it as long as it proves. So here
+each crate has a folder of its own, with the sources of those below it and what rt left of them (`out`), and one call of
 rt lib. What the longest chain waits for comes first, with a job for each processor; the others have one job. What is
 proved goes to crates/NAME/out, where rt takes it over. Crates that have work kept there are left to rt.
+
+All that is read of the tree is copied before the first proof, and all that goes there is put there after the last. So
+in between another command may clear crates/NAME/out, as rt ci does.
 """
 
 from __future__ import annotations
@@ -56,6 +59,11 @@ def link(from_: str, to: str) -> None:
         shutil.copy2(from_, to)
 
 
+def link_all(from_: str, to: str) -> None:
+    """Has the files of a folder stand in a second one, too."""
+    shutil.copytree(from_, to, symlinks=True, copy_function=link)
+
+
 class Plan:
     """What is to be proved, and in which order."""
 
@@ -103,67 +111,82 @@ class Proof:
 
 
 class Prover:
-    """Proves what a plan has, in folders below one."""
+    """Proves those of some crates that are new, all below them among these, in folders below one.
 
-    def __init__(self, plan: Plan, rooms: str) -> None:
-        self.plan, self.rooms = plan, rooms
+    The folder of a crate also keeps its `out`: that which rt left in the tree, or that of the proof here.
+    """
+
+    def __init__(self, crates: Collection[str], rooms: str) -> None:
+        self.crates, self.rooms = crates, rooms
+        self.plan = Plan([it for it in crates if is_new(it)])
         self.running: dict[int, Proof] = {}
-        self.proved: dict[str, str] = {}
+        for it in crates:
+            os.mkdir(self._room(it))
+            if it in self.plan.left:
+                copy([it, *below(it)], self._room(it), "out", "must-fail", "more-edits")
+            else:
+                link_all(out_of(it), self._out(it))
 
-    def prove(self) -> Iterator[str]:
-        """Proves all, and tells how far it is before the first and behind each."""
-        yield self.plan.told()
-        while self.plan.left:
-            self._begin()
-            proof = self._ended()
-            if proof.call.returncode:
-                raise NotProved(proof.said())
-            self.proved[proof.crate] = out_of(proof.crate, proof.room)
-            self.plan.left.discard(proof.crate)
-            yield self.plan.told()
+    def _room(self, crate: str) -> str:
+        return f"{self.rooms}/{crate}"
+
+    def _out(self, crate: str) -> str:
+        return out_of(crate, self._room(crate))
+
+    def prove(self, name: str) -> bool:
+        """Proves all, tells in the name of a command how far it is, and gives whether all are proved."""
+        try:
+            while self.plan.left:
+                print(f"{name}: {self.plan.told()}", file=sys.stderr, flush=True)
+                self._begin()
+                self._end_one()
+        except NotProved as why:
+            print(why, file=sys.stderr)
+            return False
+        finally:
+            for proof in self.running.values():
+                proof.call.terminate()
+                proof.call.wait()
+        print(f"{name}: {self.plan.told()}", file=sys.stderr, flush=True)
+        return True
 
     def _begin(self) -> None:
         """Begins what can be."""
         crates = [it.crate for it in self.running.values()]
         for crate in self.plan.ready(crates)[: lanes() - len(crates)]:
             is_first = all(self.plan.chains[it.crate] < self.plan.chains[crate] for it in self.running.values())
-            proof = Proof(crate, *self._call(crate, lanes() if is_first else 1, 0 if is_first else NICE))
-            self.running[proof.call.pid] = proof
+            call = self._call(crate, lanes() if is_first else 1, 0 if is_first else NICE)
+            self.running[call.pid] = Proof(crate, self._room(crate), call)
 
-    def _call(self, crate: str, jobs: int, nice: int) -> tuple[str, subprocess.Popen[bytes]]:
-        """A call of rt lib for a crate, and the folder that it is made in."""
-        room = f"{self.rooms}/{crate}"
-        os.mkdir(room)
-        copy([crate, *below(crate)], room, "out", "must-fail", "more-edits")
+    def _call(self, crate: str, jobs: int, nice: int) -> subprocess.Popen[bytes]:
+        """A call of rt lib for a crate, in its folder."""
+        room = self._room(crate)
         for it in below(crate):
-            shutil.copytree(self.proved.get(it, out_of(it)), out_of(it, room), symlinks=True, copy_function=link)
+            link_all(self._out(it), out_of(it, room))
         with open(f"{room}/log", "wb") as log:
-            call = subprocess.Popen(
+            return subprocess.Popen(
                 ["nice", "-n", str(nice), "rt", "lib", "--jobs", str(jobs)],
                 cwd=f"{room}/crates/{crate}",
                 stdin=subprocess.DEVNULL,
                 stdout=log,
                 stderr=subprocess.STDOUT,
             )
-        return room, call
 
-    def _ended(self) -> Proof:
-        """Waits until a call ends."""
-        while True:
-            pid, status = os.wait()
-            if proof := self.running.pop(pid, None):
-                proof.call.returncode = os.waitstatus_to_exitcode(status)
-                return proof
+    def _end_one(self) -> None:
+        """Waits until a call ends. Raises NotProved where it failed."""
+        pid, status = os.wait()
+        if proof := self.running.pop(pid, None):
+            proof.call.returncode = os.waitstatus_to_exitcode(status)
+            if proof.call.returncode:
+                raise NotProved(proof.said())
+            self.plan.left.discard(proof.crate)
 
-    def end(self) -> None:
-        """Ends what still runs, and leaves what is proved in the tree."""
-        for proof in self.running.values():
-            proof.call.terminate()
-            proof.call.wait()
-        for crate, out in self.proved.items():
-            if is_new(crate):
+    def put(self) -> None:
+        """Leaves in the tree what is proved and not there."""
+        for crate in self.crates:
+            if crate not in self.plan.left and is_new(crate):
                 shutil.rmtree(out_of(crate), ignore_errors=True)
-                shutil.move(out, out_of(crate))
+                shutil.move(self._out(crate), out_of(crate))
 
 
 @contextmanager
@@ -175,19 +198,22 @@ def alone() -> Iterator[None]:
         yield
 
 
-def prove(name: str, crates: Collection[str]) -> bool:
-    """Proves those of these crates that are new, with what they stand on, and gives whether it did."""
+def prove(name: str, crates: Collection[str], beside: bool = False) -> bool:
+    """Proves those of these crates that are new, with what they stand on, and gives whether it did.
+
+    Beside a command that clears crates/NAME/out, a line on standard output says that this command may begin, and the
+    end of standard input says that it has ended. Then what was there of these crates is put back, too.
+    """
+    needed = {*crates}.union(*map(below, crates))
     with alone(), tempfile.TemporaryDirectory(prefix="proving-") as rooms:
-        new = [it for it in {*crates}.union(*map(below, crates)) if is_new(it)]
-        if not new:
+        if not beside and not any(map(is_new, needed)):
             return True
-        prover = Prover(Plan(new), rooms)
+        prover = Prover(needed, rooms)
+        if beside:
+            print("copied", flush=True)
         try:
-            for told in prover.prove():
-                print(f"{name}: {told}", file=sys.stderr, flush=True)
-        except NotProved as why:
-            print(why, file=sys.stderr)
-            return False
+            return prover.prove(name)
         finally:
-            prover.end()
-    return True
+            if beside:
+                sys.stdin.read()
+            prover.put()
