@@ -8,6 +8,7 @@ use Rattle.std.proofs.lemmas.Option.{slice_get-get_or, slice_get_within}
 use Rattle.can_frame.specs.Parts.{Parts}
 use Rattle.can_frame.specs.Arbitration.{arbitration_field}
 use Rattle.can_bus.specs.Quiet.{busy_time}
+use Rattle.can_bus.specs.Shifts.{frame_later}
 use Rattle.can_bus.specs.Timed.{TimedParts}
 use Rattle.can_bus.proofs.Members.{stands-none, stands-cases, stands-front, stands-back, stands-either, stands-map, map-stands}
 use Rattle.document_values.specs.Values.{ArePaired}
@@ -18,7 +19,7 @@ use Rattle.can_plan_text.specs.declared.plan.Planned.{Planned}
 use Rattle.can_plan_text.specs.Plans.{messages_of}
 use Rattle.can_plan_text.specs.declared.case.Sequence.{Sequence}
 use Rattle.can_plan_text.specs.declared.case.WorstCase.{WorstCase}
-use Rattle.can_plan_text.specs.Keeping.{AreSized, KeepToMessages, later, offers_in, offers_of}
+use Rattle.can_plan_text.specs.Keeping.{AreSized, KeepToMessages, offers_in, offers_of}
 use Rattle.can_plan_text.specs.Worst.{AreOfBlocker, IsBlocker, IsOften, IsWorstCase, offer_time, start}
 use Rattle.can_plan_text.proofs.LongestFrames.{field-of}
 use Rattle.can_plan_text.proofs.Pairs.{range-at}
@@ -47,7 +48,7 @@ module _ (delay : ℕ) (p : Planned) (early : p.message.jitter ≤ delay) (f : P
         omega (arith, first, second, more, early);
   }
 
-  same-offers : (ns : List ℕ) → map offer_of (map release-at ns) ≡ map (later delay) (map (λ (t : ℕ). let x : TimedParts = record { time = t; frame = f } in x) (map (offer_time p.message) ns))
+  same-offers : (ns : List ℕ) → map offer_of (map release-at ns) ≡ map (frame_later delay) (map (λ (t : ℕ). let x : TimedParts = record { time = t; frame = f } in x) (map (offer_time p.message) ns))
   same-offers [] = refl
   same-offers (n ∷ ns) = ap (λ l. offer_of (release-at n) ∷ l) (same-offers ns)
 
@@ -69,7 +70,7 @@ module _ (delay : ℕ) (p : Planned) (early : p.message.jitter ≤ delay) (f : P
 pub record HaveRuns (delay : ℕ) (ms : List Message) (sequences : List Sequence) : Type 0 where
   pub runs : List (List Release)
   pub paired : ArePaired IsRun ms runs
-  pub same : map offer_of (joined runs) ≡ map (later delay) (flat_map offers_in sequences)
+  pub same : map offer_of (joined runs) ≡ map (frame_later delay) (flat_map offers_in sequences)
 
 level-runs : (delay long : ℕ) (level : List Planned) (often : List Sequence) → ArePaired (IsOften long) level often → AreSized level → ((p : Planned) → IsIn level p → p.message.jitter ≤ delay) →
     HaveRuns delay (messages_of level) often
@@ -90,9 +91,9 @@ level-runs delay long (p ∷ level) (s ∷ often) paired sized soon =
       same =
           map-append offer_of own (joined rest.runs)
           ∙ ap (λ l. l ++ map offer_of (joined rest.runs)) (same-offers delay p early s.frame field short numbers
-          ∙ ap (λ ts. map (later delay) (map (λ (t : ℕ). let x : TimedParts = record { time = t; frame = s.frame } in x) ts)) (sym is.times))
-          ∙ ap (λ l. map (later delay) (offers_in s) ++ l) rest.same
-          ∙ sym (map-append (later delay) (offers_in s) (flat_map offers_in often));
+          ∙ ap (λ ts. map (frame_later delay) (map (λ (t : ℕ). let x : TimedParts = record { time = t; frame = s.frame } in x) ts)) (sym is.times))
+          ∙ ap (λ l. map (frame_later delay) (offers_in s) ++ l) rest.same
+          ∙ sym (map-append (frame_later delay) (offers_in s) (flat_map offers_in often));
     }
 
 -- what blocks it, of the messages behind it
@@ -106,7 +107,7 @@ block-runs : (delay : ℕ) (lower : List Planned) (blocker : Option Planned) (on
     ((p : Planned) → IsIn lower p → p.message.jitter ≤ delay) → Blocks delay lower once
 block-runs delay lower None once is none sized soon = record {
   ms = [];
-  have = record { runs = []; paired = tt; same = sym (ap (λ l. map (later delay) (flat_map offers_in l)) none) };
+  have = record { runs = []; paired = tt; same = sym (ap (λ l. map (frame_later delay) (flat_map offers_in l)) none) };
   distinct = tt;
   among = λ m s. absurd (stands-none m s);
 }
@@ -121,8 +122,8 @@ block-runs delay lower (Some b) once is (s, frame, one) sized soon =
         runs = (release ∷ []) ∷ [];
         paired = (once-run delay b (soon b there) s.frame field short, tt);
         same =
-            sym (ap (λ l. map (later delay) (flat_map offers_in l)) one
-            ∙ ap (λ ts. map (later delay) (map (λ (t : ℕ). let x : TimedParts = record { time = t; frame = s.frame } in x) ts ++ [])) frame.times);
+            sym (ap (λ l. map (frame_later delay) (flat_map offers_in l)) one
+            ∙ ap (λ ts. map (frame_later delay) (map (λ (t : ℕ). let x : TimedParts = record { time = t; frame = s.frame } in x) ts ++ [])) frame.times);
       };
       distinct = (λ n none. absurd (stands-none n none), tt);
       among = λ m here. elim (stands-cases b.message [] m here) [
@@ -164,8 +165,8 @@ keeping planned place w delay set sized is soon =
           ap (map offer_of) (flat_map-append (λ (rs : List Release). rs) first.runs last.have.runs)
           ∙ map-append offer_of (joined first.runs) (joined last.have.runs)
           ∙ ap (λ l. l ++ map offer_of (joined last.have.runs)) first.same
-          ∙ ap (λ l. map (later delay) (flat_map offers_in parts.often) ++ l) last.have.same
-          ∙ sym (map-append (later delay) (flat_map offers_in parts.often) (flat_map offers_in parts.once))
-          ∙ ap (map (later delay)) (sym (flat_map-append offers_in parts.often parts.once) ∙ ap (flat_map offers_in) (sym parts.all));
+          ∙ ap (λ l. map (frame_later delay) (flat_map offers_in parts.often) ++ l) last.have.same
+          ∙ sym (map-append (frame_later delay) (flat_map offers_in parts.often) (flat_map offers_in parts.once))
+          ∙ ap (map (frame_later delay)) (sym (flat_map-append offers_in parts.often parts.once) ∙ ap (flat_map offers_in) (sym parts.all));
       keep = keep-to (messages_of planned) set ms (joined runs) (runs-all ms runs (paired-append IsRun (messages_of level) last.ms first.runs last.have.runs first.paired last.have.paired) distinct) among;
     }

@@ -1,6 +1,7 @@
 -- That the frames of a worst case keep to the messages, so that bounds speak of them. (docs/PLANNING.md, "The worst case")
-use Rattle.std.specs.Prelude.{ℕ, ◌≡◌, ◌+◌, List, map}
+use Rattle.std.specs.Prelude.{ℕ, ◌≡◌, List, map}
 use Rattle.std.specs.List.{flat_map}
+use Rattle.can_bus.specs.Shifts.{frames_later}
 use Rattle.can_bus.specs.Timed.{TimedParts}
 use Rattle.can_plan.specs.declared.message.Message.{Message}
 use Rattle.can_plan.specs.FramesOf.{IsLongestBusy}
@@ -21,11 +22,8 @@ offers_in s = map (λ (t : ℕ). let x : TimedParts = record { time = t; frame =
 abbrev pub offers_of : WorstCase → List TimedParts
 offers_of w = flat_map offers_in w.sequences.items
 
-abbrev pub later : ℕ → TimedParts → TimedParts
-later delay x = record { time = delay + x.time; frame = x.frame }
-
 -- so many bit times later they are those of releases that keep to the messages
 pub record KeepToMessages (messages : List Message) (delay : ℕ) (offers : List TimedParts) : Type 0 where
   pub releases : List Release
-  pub same : map offer_of releases ≡ map (later delay) offers
+  pub same : map offer_of releases ≡ frames_later delay offers
   pub keep : KeepTo messages releases
