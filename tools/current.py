@@ -22,14 +22,19 @@ def put(built: str, to: str, begun: int) -> None:
 
 
 def sum_of(crate: str) -> str:
-    """A sum of what a crate's edits of more-edits/ are tried on, and of each of them, as if it were a file."""
+    """A sum of what a crate's edits of more-edits/ are tried on, but for comments, and of each, as if it were a file."""
     folder = f"{TOP}/crates/{crate}"
     texts = {f"more-edits/{name}.edit": edit.encode() for name, edit in read_more(folder).edits.items()}
     for path in _tried(folder):
         with open(path, "rb") as it:
-            texts[os.path.relpath(path, folder)] = it.read()
+            texts[os.path.relpath(path, folder)] = _without_comments(it.read())
     told = "".join(f"{hashlib.sha256(text).hexdigest()}  {path}\n" for path, text in sorted(texts.items()))
     return hashlib.sha256(told.encode()).hexdigest()[:16]
+
+
+def _without_comments(text: bytes) -> bytes:
+    """The lines of a source but those that are comments: of Rattle, or of the language of its specifications."""
+    return b"".join(it for it in text.splitlines(keepends=True) if not it.lstrip().startswith((b"//", b"--")))
 
 
 def _tried(folder: str) -> list[str]:
