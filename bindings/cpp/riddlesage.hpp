@@ -4,7 +4,8 @@
 /// A Port is a CAN node. It frees itself, and can be moved and kept in containers. Enumerations and spans replace
 /// numbers and pointers. Only text(), play(), run(), decode_trace() and decode_levels() may throw, if there is no
 /// memory for a text or a list. A call that can fail returns a Status; unless it is Status::ok, nothing has changed.
-/// riddlesage.h says what each call does. What those calls pass on to is proved; this header is only tested.
+/// riddlesage.h says what each call does. The Rattle functions that the calls use are proved; this header is only
+/// tested.
 #ifndef RIDDLESAGE_HPP
 #define RIDDLESAGE_HPP
 

@@ -165,7 +165,7 @@ class Rows(unittest.TestCase):
                     else:
                         with self.assertRaises(Refused) as refused:
                             row.hand_in(call)
-                        self.assertEqual(refusal, str(refused.exception))
+                        self.assertEqual(refusal, str(refused.exception).partition(":")[0])
                     continue
                 wanted, given = row.holds(line)
                 self.assertEqual(wanted, given)
@@ -450,7 +450,8 @@ class Refusals(unittest.TestCase):
         with self.assertRaises(Fault) as caught:
             decode(bytes(6))
         fault = caught.exception
-        self.assertEqual(("STUFF", 5, "stuff at 5"), (fault.name, fault.place, str(fault)))
+        self.assertEqual(("STUFF", 5), (fault.name, fault.place))
+        self.assertEqual("stuff at 5: stuff error, a sixth equal level in a row", str(fault))
         with self.assertRaises(Fault) as caught:
             decode(b"")
         self.assertEqual(("SHORT", 0), (caught.exception.name, caught.exception.place))
@@ -461,7 +462,8 @@ class Refusals(unittest.TestCase):
         for text, field in (("version = ", "toml"), ("", "version"), ("version = 1\nbits = 1\nport = [1]", "port[0]")):
             with self.assertRaises(BadScenario) as refused:
                 riddlesage.run(text)
-            self.assertEqual((field, f"bad scenario: {field}"), (refused.exception.field, str(refused.exception)))
+            self.assertEqual(field, refused.exception.field)
+            self.assertTrue(str(refused.exception).startswith(f"bad scenario: {field}: "))
         traces: list[str | bytes] = ["0000001x0", *(bytes([0, 0, 0, 0, 0, 0, 1, bad, 0]) for bad in (2, 32, 48, 255))]
         for trace in traces:
             with self.assertRaises(BadByte) as bad:

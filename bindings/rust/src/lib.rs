@@ -23,8 +23,8 @@
 //! # Ok::<(), riddlesage::Refused>(())
 //! ```
 //!
-//! The calls are those of `riddlesage.h`. What these pass on to is proved; this crate is only tested. The types exclude
-//! most invalid arguments, so few calls can fail.
+//! The calls are those of `riddlesage.h`. The Rattle functions that they use are proved; this crate is only tested. The
+//! types exclude most invalid arguments, so few calls can fail.
 
 mod bus;
 mod frame;
