@@ -1,4 +1,5 @@
 r"""A reference model of a classical CAN controller, bit by bit (Bosch CAN 2.0 part B, ISO 11898-1).
+
     >>> from riddlesage import Frame, Port, encode
     >>> sender, receiver = Port(), Port()
     >>> sender.offer(Frame(0x123, b"\xaa\x55"))

@@ -81,6 +81,7 @@ def name_of(status: Status) -> str:
     """The name of a status, as the library has it."""
     return status.name.lower().replace("_", " ")
 
+
 class RiddlesageError(Exception):
     """The base class of this package's exceptions."""
 

@@ -233,7 +233,8 @@ def _arguments(words: Sequence[str] | None) -> argparse.Namespace:
         epilog="Error frames and CAN FD frames are counted, but not measured. A line that cannot be read is reported "
         "on standard error; then the exit status is 1.",
     )
-    parser.add_argument("log", metavar="LOG", help="a log of candump, or - for standard input; .asc and .blf need python-can")
+    log = "a log of candump, or - for standard input; .asc and .blf need python-can"
+    parser.add_argument("log", metavar="LOG", help=log)
     parser.add_argument("--bitrate", type=_number, required=True, metavar="N", help="bit rate, in bits per second")
     parser.add_argument("--channel", metavar="NAME", help="only this channel; without it all")
     slack = f"frames at most so many bit times apart count as back to back; default {SLACK}"
