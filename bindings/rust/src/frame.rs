@@ -249,14 +249,14 @@ pub enum FaultKind {
 
 impl fmt::Display for Fault {
     fn fmt(&self, out: &mut fmt::Formatter<'_>) -> fmt::Result {
-        let name = match self.kind {
-            FaultKind::Short => "short",
-            FaultKind::NoStart => "no start",
-            FaultKind::Stuff => "stuff",
-            FaultKind::Crc => "crc",
-            FaultKind::Form => "form",
+        let (name, meaning) = match self.kind {
+            FaultKind::Short => ("short", "the levels end before the frame does"),
+            FaultKind::NoStart => ("no start", "the first level is recessive, so it is no start of frame"),
+            FaultKind::Stuff => ("stuff", "stuff error, a sixth equal level in a row"),
+            FaultKind::Crc => ("crc", "the CRC sequence is wrong"),
+            FaultKind::Form => ("form", "form error, a bit of fixed form is dominant"),
         };
-        write!(out, "{name} at {}", self.place)
+        write!(out, "{name} at {}: {meaning}", self.place)
     }
 }
 

@@ -87,15 +87,15 @@ impl Refused {
 impl fmt::Display for Refused {
     fn fmt(&self, out: &mut fmt::Formatter<'_>) -> fmt::Result {
         out.write_str(match self {
-            Self::NoMemory => "no memory",
-            Self::QueueFull => "queue full",
-            Self::BadIdentifier => "bad identifier",
-            Self::BadDlc => "bad dlc",
-            Self::BadCount => "bad count",
-            Self::NoLevels => "no levels",
-            Self::BadBus => "bad bus",
-            Self::NoSuchPort => "no such port",
-            Self::BadOrder => "bad order",
+            Self::NoMemory => "no memory: there is none for the port or the bus",
+            Self::QueueFull => "queue full: the transmit queue is full",
+            Self::BadIdentifier => "bad identifier: 0 to 0x7ff, or to 0x1fffffff if it is extended",
+            Self::BadDlc => "bad dlc: 0 to 15, with as many data bytes as it means",
+            Self::BadCount => "bad count: 0 to 2 overload frames can be requested",
+            Self::NoLevels => "no levels: there are no levels to sample",
+            Self::BadBus => "bad bus: a bus has 1 to 64 ports",
+            Self::NoSuchPort => "no such port: an offer or a hit names no port of the bus",
+            Self::BadOrder => "bad order: offers or hits are not in order",
         })
     }
 }

@@ -23,9 +23,10 @@ pub enum ScenarioFault {
 impl fmt::Display for ScenarioFault {
     fn fmt(&self, out: &mut fmt::Formatter<'_>) -> fmt::Result {
         match self {
-            Self::Field(field) => write!(out, "bad scenario: {field}"),
-            Self::NoMemory => out.write_str("no memory"),
-            Self::TooLong => out.write_str("no room"),
+            Self::Field(field) if field == "toml" => out.write_str("bad scenario: toml: not a valid TOML document"),
+            Self::Field(field) => write!(out, "bad scenario: {field}: missing, unknown or not a valid value"),
+            Self::NoMemory => out.write_str("no memory: there is none for the simulation"),
+            Self::TooLong => out.write_str("no room: the report has more than 33,554,432 bytes"),
         }
     }
 }
@@ -52,9 +53,9 @@ pub enum TraceFault {
 impl fmt::Display for TraceFault {
     fn fmt(&self, out: &mut fmt::Formatter<'_>) -> fmt::Result {
         match self {
-            Self::BadByte { place, .. } => write!(out, "bad byte at {place}"),
-            Self::NoMemory => out.write_str("no memory"),
-            Self::TooLong => out.write_str("no room"),
+            Self::BadByte { place, .. } => write!(out, "bad byte at {place}: it is not a level"),
+            Self::NoMemory => out.write_str("no memory: there is none for the lines"),
+            Self::TooLong => out.write_str("no room: the lines have more than 33,554,432 bytes"),
         }
     }
 }
