@@ -59,7 +59,7 @@ class Walk(unittest.TestCase):
         self.shown(self.last_line(*mine))
         self.shown(self.last_line(MISTAKE, *mine[1:]))
         self.assertIn("passed", self.last_line(*block_of("conformance/run --show --only rx-identifiers")))
-        fault = block_of("fail suspend-behind-error at 253")
+        fault = block_of("fail suspend-after-error at 253")
         told = self.printed("conformance/run --show --expect conformance/transcripts -- COMMAND")
         self.assertIn("\n".join(fault), told)
 
@@ -80,5 +80,5 @@ class Walk(unittest.TestCase):
         # the run of the cases ends with status 1, as some fail
         for command in block_of("conformance/run --quiet --transcripts"):
             told = self.printed(command).splitlines()
-        due = next(line for line in re.findall(r"`(fail suspend-behind-error at 253: [^`]*since[^`]*)`", PAGE))
+        due = next(line for line in re.findall(r"`(fail suspend-after-error at 253: [^`]*since[^`]*)`", PAGE))
         self.assertIn(due, told)
