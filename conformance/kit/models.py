@@ -15,7 +15,7 @@ ADAPTER = "conformance/adapters/simulator.rs"
 
 
 class Patch(Protocol):
-    """A change of sources, such as a mistake."""
+    """A change of sources, such as a mutation."""
 
     def applied(self, texts: dict[str, str]) -> dict[str, str]:
         """The sources, by their paths, with the change. Raises ValueError where it does not fit."""
@@ -49,7 +49,7 @@ def _write(texts: dict[str, str], folder: str) -> None:
 
 @dataclass
 class Model:
-    """An adapter's sources by their paths. Its mistakes are changes of `texts`."""
+    """An adapter's sources by their paths. Its mutations are changes of `texts`."""
 
     name: str
     texts: dict[str, str]
@@ -73,7 +73,7 @@ class Model:
 class CModel(Model):
     """The small controller in C.
 
-    What is compiled of it as it is is kept for the mistakes, each of which changes one file or two.
+    What is compiled of it as it is is kept for the mutations, each of which changes one file or two.
     """
 
     objects: dict[str, str] = field(default_factory=dict)

@@ -1,4 +1,4 @@
-"""Tests of the kit: levels as text, frames, documents, comparisons, reports, mistakes and their matrix."""
+"""Tests of the kit: levels as text, frames, documents, comparisons, reports, mutations and their matrix."""
 
 from __future__ import annotations
 
@@ -13,7 +13,7 @@ from kit.frames import Frame
 from kit.levels import read_levels, write_levels
 from kit.library import FOLDER, read_library
 from kit.matrix import caught_by, cover, idle_cases, matrix, reason_faults
-from kit.mistakes import Mistake, read_mistakes
+from kit.mutations import Mutation, read_mutations
 from kit.models import controller, simulator
 from kit.playing import cuts
 from kit.reports import window_lines
@@ -142,7 +142,7 @@ class Reports(unittest.TestCase):
 
 
 class Matrix(unittest.TestCase):
-    """Three cases: the first mistake is caught by two of them, the second by one."""
+    """Three cases: the first mutation is caught by two of them, the second by one."""
 
     def setUp(self) -> None:
         text = "".join(CASE.replace("some-case", f"some-{name}") for name in ("one", "two", "three"))
@@ -150,8 +150,8 @@ class Matrix(unittest.TestCase):
         right = [Transcript(case.name, "1" * 20, [(1, "lost")]) for case in self.cases]
         wrong = Transcript("", "0" + "1" * 19, [(1, "lost")])
         both, last = [wrong, wrong, right[2]], [right[0], wrong, right[2]]
-        mistakes = [Mistake(name, "controller", "", "some", "levels") for name in ("seen-twice", "seen-once")]
-        self.caught = [caught_by(mistakes[0], self.cases, both, right), caught_by(mistakes[1], self.cases, last, right)]
+        mutations = [Mutation(name, "controller", "", "some", "levels") for name in ("seen-twice", "seen-once")]
+        self.caught = [caught_by(mutations[0], self.cases, both, right), caught_by(mutations[1], self.cases, last, right)]
 
     def test_what_catches_what(self) -> None:
         self.assertEqual([one.names() for one in self.caught], [["some-one", "some-two"], ["some-two"]])
@@ -191,12 +191,12 @@ class Changes(unittest.TestCase):
         self.assertEqual(change.applied({"a.c": "    x = 0;\n    x = 0;\n"}), {"a.c": "    x = 0;\n    x = 1;\n"})
 
 
-class Mistakes(unittest.TestCase):
-    def test_every_mistake_fits_its_source(self) -> None:
+class Mutations(unittest.TestCase):
+    def test_every_mutation_fits_its_source(self) -> None:
         for model in (controller(), simulator()):
-            with open(os.path.join(TOP, "mistakes", f"{model.name}.txt"), encoding="utf-8") as file:
-                for mistake in read_mistakes(file.read(), model.name):
-                    self.assertNotEqual(mistake.applied(model.texts), model.texts)
+            with open(os.path.join(TOP, "mutations", f"{model.name}.txt"), encoding="utf-8") as file:
+                for mutation in read_mutations(file.read(), model.name):
+                    self.assertNotEqual(mutation.applied(model.texts), model.texts)
 
 
 if __name__ == "__main__":

@@ -1,4 +1,4 @@
-"""The walk of README: its commands, with the controller in C for yours, and the mistake that it has you make."""
+"""The walk of README: its commands, with the controller in C for yours, and the mutation that it has you make."""
 
 from __future__ import annotations
 
@@ -15,7 +15,7 @@ BLOCKS = [
     [line[4:] for line in block.splitlines()] for block in re.findall(r"(?:^ {4}.*\n)+", PAGE, flags=re.MULTILINE)
 ]
 # seven for eight in take_suspend
-MISTAKE = "sed -i '/^static enum event take_suspend/,/^}/s/8/7/' ../mine/controller.c"
+MUTATION = "sed -i '/^static enum event take_suspend/,/^}/s/8/7/' ../mine/controller.c"
 
 
 def block_of(begin: str) -> list[str]:
@@ -57,7 +57,7 @@ class Walk(unittest.TestCase):
         self.shown(self.last_line(*block_of("conformance/run --quiet --expect")))
         mine = block_of("cp -r conformance/adapters/controller")
         self.shown(self.last_line(*mine))
-        self.shown(self.last_line(MISTAKE, *mine[1:]))
+        self.shown(self.last_line(MUTATION, *mine[1:]))
         self.assertIn("passed", self.last_line(*block_of("conformance/run --show --only rx-identifiers")))
         fault = block_of("fail suspend-after-error at 253")
         told = self.printed("conformance/run --show --expect conformance/transcripts -- COMMAND")
@@ -67,7 +67,7 @@ class Walk(unittest.TestCase):
         self.printed(*further[:2])
         counted = re.fullmatch(r"passed \d+ failed (\d+) void 0 skipped 0 of (\d+)", self.last_line(further[2]))
         assert counted
-        self.assertIn(f"With the mistake above {counted[1]} of the {counted[2]} cases fail.", PAGE)
+        self.assertIn(f"With the mutation above {counted[1]} of the {counted[2]} cases fail.", PAGE)
         self.assertFalse(self.last_line(further[3]).endswith("the same"))
         self.printed("cp conformance/adapters/controller/controller.c ../mine", *mine[1:])
         self.assertTrue(self.last_line(further[3].replace("--runs 200", "--runs 5")).endswith("the same"))
@@ -76,7 +76,7 @@ class Walk(unittest.TestCase):
     def test_have_it_judged(self) -> None:
         """The proved judge names the rule."""
         mine = block_of("cp -r conformance/adapters/controller")
-        self.printed(mine[0], MISTAKE, mine[1])
+        self.printed(mine[0], MUTATION, mine[1])
         # the run of the cases ends with status 1, as some fail
         for command in block_of("conformance/run --quiet --transcripts"):
             told = self.printed(command).splitlines()

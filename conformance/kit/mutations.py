@@ -1,8 +1,8 @@
-"""Mistakes of a controller: named changes of an adapter's sources.
+"""Mutations of a controller: named changes of an adapter's sources.
 
-A file of mistakes has blocks parted by blank lines:
+A file of mutations has blocks parted by blank lines:
 
-    mistake suspend-7
+    mutation suspend-7
     what suspend of seven levels
     family suspend
     shows levels
@@ -21,7 +21,7 @@ SHOWS = ("levels", "events", "counters", "nothing")
 
 
 @dataclass
-class Mistake:
+class Mutation:
     """One change of a correct controller."""
 
     name: str
@@ -32,7 +32,7 @@ class Mistake:
     changes: list[tuple[list[str], list[str]]] = field(default_factory=list)
 
     def applied(self, texts: dict[str, str]) -> dict[str, str]:
-        """The sources, by their paths, with the mistake. Raises ValueError where an old text doesn't stand once."""
+        """The sources, by their paths, with the mutation. Raises ValueError where an old text doesn't stand once."""
         sources = {path: text.split("\n") for path, text in texts.items()}
         for old, new in self.changes:
             found = [(path, at) for path, lines in sources.items() for at in _places(lines, old)]
@@ -49,37 +49,37 @@ def _places(lines: list[str], wanted: list[str]) -> list[int]:
     return [at for at in range(len(lines)) if stripped[at : at + len(wanted)] == wanted]
 
 
-def _take(mistake: Mistake, line: str, was_new: bool) -> bool:
+def _take(mutation: Mutation, line: str, was_new: bool) -> bool:
     """Takes a line of a block; whether it is one behind `+`."""
     word, _, rest = line.partition(" ")
     if word == "-":
-        if was_new or not mistake.changes:
-            mistake.changes.append(([], []))
-        mistake.changes[-1][0].append(rest.strip())
+        if was_new or not mutation.changes:
+            mutation.changes.append(([], []))
+        mutation.changes[-1][0].append(rest.strip())
     elif word == "+":
-        mistake.changes[-1][1].append(rest)
+        mutation.changes[-1][1].append(rest)
     elif word in ("what", "family", "shows"):
-        setattr(mistake, word, rest)
+        setattr(mutation, word, rest)
     else:
-        raise ValueError(f"{mistake.name}: {line!r}")
+        raise ValueError(f"{mutation.name}: {line!r}")
     return word == "+"
 
 
-def read_mistakes(text: str, source: str) -> list[Mistake]:
-    """The mistakes of a file, all of one source."""
-    mistakes: list[Mistake] = []
+def read_mutations(text: str, source: str) -> list[Mutation]:
+    """The mutations of a file, all of one source."""
+    mutations: list[Mutation] = []
     was_new = False
     for line in text.split("\n"):
         if not line.strip() or line.startswith("#"):
             continue
-        if line.startswith("mistake "):
-            mistakes.append(Mistake(line.split(" ", 1)[1], source))
+        if line.startswith("mutation "):
+            mutations.append(Mutation(line.split(" ", 1)[1], source))
             was_new = False
         else:
-            was_new = _take(mistakes[-1], line, was_new)
-    for mistake in mistakes:
-        if not (mistake.what and mistake.family and mistake.changes) or mistake.shows not in SHOWS:
-            raise ValueError(f"{mistake.name}: a line is missing")
-    if len({mistake.name for mistake in mistakes}) < len(mistakes):
-        raise ValueError("two mistakes have one name")
-    return mistakes
+            was_new = _take(mutations[-1], line, was_new)
+    for mutation in mutations:
+        if not (mutation.what and mutation.family and mutation.changes) or mutation.shows not in SHOWS:
+            raise ValueError(f"{mutation.name}: a line is missing")
+    if len({mutation.name for mutation in mutations}) < len(mutations):
+        raise ValueError("two mutations have one name")
+    return mutations
