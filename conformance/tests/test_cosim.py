@@ -1,4 +1,4 @@
-"""Tests of the co-simulation of examples/cosim, with the controller in C as it is and with a mutation in it."""
+"""Tests of the co-simulation of examples/cosim, with the controller in C and with a mutant of it."""
 
 from __future__ import annotations
 
@@ -58,7 +58,7 @@ class Cosim(unittest.TestCase):
         run = self.run_cosim("--runs", "2", "--", self.golden)
         self.assertEqual((run.returncode, run.stdout.split(": ")[-1]), (0, "the same\n"), run)
 
-    def test_a_difference_is_told_and_kept(self) -> None:
+    def test_a_difference_is_reported_and_stored(self) -> None:
         kept = os.path.join(self.folder.name, "kept.toml")
         run = self.run_cosim("--keep", kept, "--", self.broken)
         self.assertEqual(run.returncode, 1, run)
