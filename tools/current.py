@@ -1,7 +1,7 @@
-"""Whether something is that of the sources as they are: by its time, or by a sum.
+"""Whether something is up to date with the sources: by file time, or by a checksum.
 
-What never leaves the machine is held against them by its time (tools/is-current), for which put makes a program as old
-as the begin of its build. That the edits of a crate were tried is noted by a sum, which holds in each clone.
+Built files never leave the machine, so their file times are compared (tools/is-current): put gives a program the time
+at which its build began. That the edits of a crate were tried is recorded as a checksum, which is valid in each clone.
 """
 
 from __future__ import annotations
@@ -15,25 +15,30 @@ from repository import TOP
 
 
 def put(built: str, to: str, begun: int) -> None:
-    """Puts a program where it is called, as old as the begin of its build, in nanoseconds: later changes are newer."""
+    """Copies a built program to a path. Its file time is the begin of its build (ns), so later changes are newer."""
     shutil.copy(built, f"{to}.new")
     os.utime(f"{to}.new", ns=(begun, begun))
     os.replace(f"{to}.new", to)
 
 
 def sum_of(crate: str) -> str:
-    """A sum of what a crate's edits of more-edits/ are tried on, and of each of them, as if it were a file."""
+    """A checksum of what a crate's mutants of more-edits/ are tried on, without comments, and of each mutant."""
     folder = f"{TOP}/crates/{crate}"
     texts = {f"more-edits/{name}.edit": edit.encode() for name, edit in read_more(folder).edits.items()}
     for path in _tried(folder):
         with open(path, "rb") as it:
-            texts[os.path.relpath(path, folder)] = it.read()
+            texts[os.path.relpath(path, folder)] = _without_comments(it.read())
     told = "".join(f"{hashlib.sha256(text).hexdigest()}  {path}\n" for path, text in sorted(texts.items()))
     return hashlib.sha256(told.encode()).hexdigest()[:16]
 
 
+def _without_comments(text: bytes) -> bytes:
+    """The lines of a source that are not comments, of Rattle or of its specification language."""
+    return b"".join(it for it in text.splitlines(keepends=True) if not it.lstrip().startswith((b"//", b"--")))
+
+
 def _tried(folder: str) -> list[str]:
-    """The files of a crate that an edit's trial depends on: src/ but its tests, and specs/."""
+    """The files of a crate that the trial of a mutant depends on: specs/, and src/ without tests."""
     return [
         f"{at}/{name}"
         for part in ("src", "specs")

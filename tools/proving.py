@@ -1,12 +1,12 @@
-"""Proves crates from nothing, side by side.
+"""Proves crates from nothing, in parallel.
 
-In one tree rt proves one crate after the other, since it holds a crate and all below it as long as it proves. So here
-each crate has a folder of its own, with the sources of those below it and what rt left of them (`out`), and one call of
-rt lib. What the longest chain waits for comes first, with a job for each processor; the others have one job. What is
-proved goes to crates/NAME/out, where rt takes it over. Crates that have work kept there are left to rt.
+In one tree rt proves one crate after the other, since it locks a crate and all below it as long as it proves. So here
+each crate has a folder of its own, with the sources of the crates below it and their kept proofs (`out`), and one call
+of rt lib. The crates that the longest chain waits for come first, with a job for each processor; the others have one
+job. The proofs go to crates/NAME/out, where rt reuses them. Crates that have kept proofs there are left to rt.
 
-All that is read of the tree is copied before the first proof, and all that goes there is put there after the last. So
-in between another command may clear crates/NAME/out, as rt ci does.
+What is read from the tree is copied before the first proof, and what goes there is put there after the last. So in
+between another command may clear crates/NAME/out, as rt ci does.
 """
 
 from __future__ import annotations
@@ -25,34 +25,34 @@ from dataclasses import dataclass
 
 from repository import TOP, below, copy, needs_of, read_costs
 
-# Of the seconds of tools/costs.txt, in which a crate has one job, a machine that does nothing else takes so many.
+# The share of the seconds of tools/costs.txt (one job a crate) that an otherwise idle machine takes.
 USUAL_SLOWNESS = 0.5
-# The seconds of a crate that isn't listed there.
+# The seconds of a crate that is not listed there.
 USUAL_COST = 30.0
-# What a proof may take of the memory, in bytes.
+# The memory that a proof may take, in bytes.
 MEMORY = 3 << 30
-# What isn't waited for most gives way to what is.
+# Crates outside of the longest chain give way to those within it.
 NICE = 10
 
 
 def lanes() -> int:
-    """How many proofs go on side by side here."""
+    """How many proofs run in parallel here."""
     memory = os.sysconf("SC_PHYS_PAGES") * os.sysconf("SC_PAGE_SIZE")
     return max(1, min(len(os.sched_getaffinity(0)), memory // MEMORY))
 
 
 def out_of(crate: str, top: str = TOP) -> str:
-    """Where rt leaves its work on a crate."""
+    """Where rt keeps the proofs of a crate."""
     return f"{top}/crates/{crate}/out"
 
 
 def is_new(crate: str) -> bool:
-    """Whether rt has kept no work of a crate that it goes on from. rt ci keeps none in the tree."""
+    """Whether rt has kept no proofs of a crate that it can reuse. rt ci keeps none in the tree."""
     return not os.path.isdir(f"{out_of(crate)}/incremental")
 
 
 def link(from_: str, to: str) -> None:
-    """Has a file stand in a second place, too; it is copied where it can't."""
+    """Links a file to a second place, or copies it if that is impossible."""
     try:
         os.link(from_, to)
     except OSError:
@@ -60,12 +60,12 @@ def link(from_: str, to: str) -> None:
 
 
 def link_all(from_: str, to: str) -> None:
-    """Has the files of a folder stand in a second one, too."""
+    """Links the files of a folder to a second one."""
     shutil.copytree(from_, to, symlinks=True, copy_function=link)
 
 
 class Plan:
-    """What is to be proved, and in which order."""
+    """The crates to be proved, and their order."""
 
     def __init__(self, crates: Collection[str]) -> None:
         self.needs = needs_of(crates)
@@ -84,8 +84,8 @@ class Plan:
         free = [it for it in self.left if it not in running and self.left.isdisjoint(self.needs[it])]
         return sorted(free, key=lambda it: -self.chains[it])
 
-    def told(self) -> str:
-        """How far it is."""
+    def progress(self) -> str:
+        """The progress, in words."""
         chain = max((self.chains[it] for it in self.left), default=0)
         seconds = max(chain, sum(self.seconds[it] for it in self.left) / lanes())
         time = f", about {math.ceil(seconds / 60)} min left" if self.left else ""
@@ -93,7 +93,7 @@ class Plan:
 
 
 class NotProved(Exception):
-    """A crate was not proved; it says what rt said."""
+    """A crate was not proved; its text is the output of rt."""
 
 
 @dataclass(frozen=True)
@@ -104,16 +104,16 @@ class Proof:
     room: str
     call: subprocess.Popen[bytes]
 
-    def said(self) -> str:
-        """What rt said of it."""
+    def output(self) -> str:
+        """The output of rt."""
         with open(f"{self.room}/log", encoding="utf-8", errors="replace") as log:
             return log.read()
 
 
 class Prover:
-    """Proves those of some crates that are new, all below them among these, in folders below one.
+    """Proves the new ones of some crates, which include all that they depend on, each in a folder of its own.
 
-    The folder of a crate also keeps its `out`: that which rt left in the tree, or that of the proof here.
+    The folder of a crate also keeps its `out`: that of the tree, or that of the proof here.
     """
 
     def __init__(self, crates: Collection[str], rooms: str) -> None:
@@ -134,10 +134,10 @@ class Prover:
         return out_of(crate, self._room(crate))
 
     def prove(self, name: str) -> bool:
-        """Proves all, tells in the name of a command how far it is, and gives whether all are proved."""
+        """Proves all, prints the progress in the name of a command, and returns whether all are proved."""
         try:
             while self.plan.left:
-                print(f"{name}: {self.plan.told()}", file=sys.stderr, flush=True)
+                print(f"{name}: {self.plan.progress()}", file=sys.stderr, flush=True)
                 self._begin()
                 self._end_one()
         except NotProved as why:
@@ -147,11 +147,11 @@ class Prover:
             for proof in self.running.values():
                 proof.call.terminate()
                 proof.call.wait()
-        print(f"{name}: {self.plan.told()}", file=sys.stderr, flush=True)
+        print(f"{name}: {self.plan.progress()}", file=sys.stderr, flush=True)
         return True
 
     def _begin(self) -> None:
-        """Begins what can be."""
+        """Begins the proofs that can begin."""
         crates = [it.crate for it in self.running.values()]
         for crate in self.plan.ready(crates)[: lanes() - len(crates)]:
             is_first = all(self.plan.chains[it.crate] < self.plan.chains[crate] for it in self.running.values())
@@ -173,16 +173,16 @@ class Prover:
             )
 
     def _end_one(self) -> None:
-        """Waits until a call ends. Raises NotProved where it failed."""
+        """Waits until a call ends. Raises NotProved if it failed."""
         pid, status = os.wait()
         if proof := self.running.pop(pid, None):
             proof.call.returncode = os.waitstatus_to_exitcode(status)
             if proof.call.returncode:
-                raise NotProved(proof.said())
+                raise NotProved(proof.output())
             self.plan.left.discard(proof.crate)
 
     def put(self) -> None:
-        """Leaves in the tree what is proved and not there."""
+        """Puts into the tree the proofs that it lacks."""
         for crate in self.crates:
             if crate not in self.plan.left and is_new(crate):
                 shutil.rmtree(out_of(crate), ignore_errors=True)
@@ -199,10 +199,10 @@ def alone() -> Iterator[None]:
 
 
 def prove(name: str, crates: Collection[str], beside: bool = False) -> bool:
-    """Proves those of these crates that are new, with what they stand on, and gives whether it did.
+    """Proves the new ones of these crates and of their dependencies, and returns whether all are proved.
 
-    Beside a command that clears crates/NAME/out, a line on standard output says that this command may begin, and the
-    end of standard input says that it has ended. Then what was there of these crates is put back, too.
+    In parallel with a command that clears crates/NAME/out (beside), a line on standard output says that the command may
+    begin, and the end of standard input that it has ended. Then what was there of these crates is put back, too.
     """
     needed = {*crates}.union(*map(below, crates))
     with alone(), tempfile.TemporaryDirectory(prefix="proving-") as rooms:

@@ -1,4 +1,4 @@
-"""Crates of the repository: what they stand on, what their proofs cost, and copies of them in which rt is called."""
+"""Crates of the repository: their dependencies, what their proofs cost, and copies of them in which rt is called."""
 
 from __future__ import annotations
 
@@ -12,20 +12,20 @@ TOP = os.path.dirname(os.path.dirname(os.path.realpath(__file__)))
 
 
 def below(crate: str) -> list[str]:
-    """The crates of the repository that a crate stands on."""
-    told = subprocess.run([f"{TOP}/tools/libraries", crate], stdout=subprocess.PIPE, text=True, check=True)
-    return told.stdout.split()
+    """The crates of the repository that a crate depends on, directly or not."""
+    call = subprocess.run([f"{TOP}/tools/libraries", crate], stdout=subprocess.PIPE, text=True, check=True)
+    return call.stdout.split()
 
 
 def needs_of(crates: Collection[str]) -> dict[str, list[str]]:
-    """Of each of these crates those of them that it calls."""
+    """For each of these crates, its direct dependencies among them."""
     with open(f"{TOP}/crates.txt", encoding="utf-8") as it:
         rows = [re.match(r"(\w+)[^:#]*:(.*)", line) for line in it]
     return {row[1]: [it for it in row[2].split() if it in crates] for row in rows if row and row[1] in crates}
 
 
 def read_costs() -> dict[str, float]:
-    """The seconds of one processor that the proof of each crate takes, by tools/costs.txt."""
+    """The processor seconds that the proof of each crate takes, from tools/costs.txt."""
     with open(f"{TOP}/tools/costs.txt", encoding="utf-8") as it:
         rows = [line.split() for line in it if line.strip() and not line.startswith("#")]
     return {crate: float(seconds) for crate, seconds in rows}
@@ -34,7 +34,7 @@ def read_costs() -> dict[str, float]:
 def copy(crates: Collection[str], to: str, *left_out: str) -> None:
     """Makes a repository of these crates in a folder, without the files and folders of these names.
 
-    The folder is outside of this repository, where rt ci refuses a second crates.txt.
+    The folder is outside of this repository: within it, rt ci refuses a second crates.txt.
     """
     shutil.copy(f"{TOP}/HANDLES", to)
     with open(f"{TOP}/crates.txt", encoding="utf-8") as it, open(f"{to}/crates.txt", "w", encoding="utf-8") as out:

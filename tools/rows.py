@@ -1,24 +1,24 @@
-"""The crates of tests/rows, put among the crates of a copy of the repository."""
+"""Copies the crates of tests/rows among the crates of a copy of the repository."""
 
 from __future__ import annotations
 
 import os
 import shutil
 
-# files of Rattle outside of crates/, where rt ci lets none end in .rt
+# of Rattle files outside of crates/: rt ci accepts none there that ends in .rt
 SUFFIX = ".rattle"
 
 
 def crates_of(root: str) -> dict[str, str]:
-    """The lines of tests/rows/libraries.txt, by crate."""
+    """The line of each crate in tests/rows/libraries.txt."""
     with open(f"{root}/tests/rows/libraries.txt", encoding="utf-8") as it:
         return {line.partition(":")[0]: line for line in it if line.strip() and not line.startswith("#")}
 
 
 def put_rows(root: str, to: str) -> None:
-    """Puts the crates of tests/rows of a repository among those of a copy of it.
+    """Copies the crates of tests/rows of a repository among those of a copy of it.
 
-    No crate can name a static library, so those stand there as libraries.
+    A crate cannot depend on a static library, so in the copy static libraries become libraries.
     """
     lines = crates_of(root)
     for crate in lines:
