@@ -28,7 +28,7 @@ async function encode(open) {
   await page.fill('frame-text', 'S 123 D 2 aa55');
   await page.run(() => document.querySelectorAll('#encode-wire .level')[17].focus());
   await drawn(page);
-  await take(page, 'picture.png', { first: 'body', last: '#encode-level' });
+  await take(page, 'picture.png', { first: '#encode-told', last: '#encode-level', margin: 4 });
 }
 
 /** Three nodes, one of which sees a bit error in the end of frame that the others don't. */
