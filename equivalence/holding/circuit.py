@@ -1,6 +1,6 @@
-"""The circuit that designs are held against, read from its Verilog: words, gates, outputs, and what registers take.
+"""The circuit that designs are compared with, read from its Verilog: words, gates, outputs and next-state logic.
 
-Three forms of line say all of it: `wire n3 = n1 & ~n2;` (or a name in place of the gate), `assign told[0] = n7;`, and
+Its statements have three forms: `wire n3 = n1 & ~n2;` (or a name in place of the gate), `assign told[0] = n7;`, and
 `phase[0] <= n9;`.
 """
 
@@ -25,7 +25,7 @@ Literal = tuple[int, bool]
 
 @dataclass
 class Circuit:
-    """What the text says, by the numbers of signals."""
+    """The content of the file, by signal numbers."""
 
     widths: dict[str, dict[str, int]] = field(default_factory=lambda: {"input": {}, "output": {}, "reg": {}})
     gates: dict[int, tuple[Literal, Literal]] = field(default_factory=dict)
@@ -35,29 +35,29 @@ class Circuit:
 
     @property
     def inputs(self) -> dict[str, int]:
-        """Its inputs' widths, the clock left out."""
+        """The widths of its inputs, without the clock."""
         return {name: width for name, width in self.widths["input"].items() if name != "clock"}
 
     @property
     def words(self) -> dict[str, int]:
-        """The widths of what a relation can name."""
+        """The widths of the words that a register mapping can name."""
         return {**self.widths["reg"], **self.widths["output"], **self.inputs}
 
     @property
     def stub(self) -> str:
-        """Its head alone, for a tool that needs to know its ports."""
+        """The module's header as a black box, for yosys."""
         kinds = (("input", self.widths["input"]), ("output", self.widths["output"]))
         ports = [f"{kind} [{width - 1}:0] {name}" for kind, words in kinds for name, width in words.items()]
         return f"(* blackbox, keep *) module {MODULE} ({', '.join(ports)}); endmodule\n"
 
 
 def literal(sign: str, number: str) -> Literal:
-    """A literal by its sign and its signal."""
+    """A literal from its sign and its signal."""
     return int(number), sign == "~"
 
 
 def take_line(circuit: Circuit, line: str) -> bool:
-    """Takes a line, and tells whether it has one of the forms."""
+    """Adds a line to the circuit, and returns whether it has one of the forms."""
     if found := GATE.fullmatch(line):
         circuit.gates[int(found[1])] = (literal(found[2], found[3]), literal(found[4], found[5]))
     elif found := NAME.fullmatch(line):
@@ -75,16 +75,16 @@ def take_line(circuit: Circuit, line: str) -> bool:
 
 
 def bits(words: dict[str, int]) -> set[Bit]:
-    """All places of some words."""
+    """All bits of some words."""
     return {(name, place) for name, width in words.items() for place in range(width)}
 
 
 def read_circuit(text: str, path: str) -> Circuit:
-    """The circuit of a text. Raises Fault where a line has another form, or what it reads isn't there."""
+    """The circuit in a text. Raises Fault if a line has another form, or reads a signal that isn't defined."""
     circuit = Circuit()
     for number, line in enumerate(text.splitlines(), 1):
         if not take_line(circuit, COMMENT.sub("", line).strip()):
-            raise Fault(f"{path}: line {number} is none of the circuit's: {line.strip()}")
+            raise Fault(f"{path}: line {number} has none of the forms that cangates writes: {line.strip()}")
     signals = {0, *circuit.names, *circuit.gates}
     read = {side for sides in circuit.gates.values() for side in sides}
     read |= {*circuit.outputs.values(), *circuit.takes.values()}
@@ -93,5 +93,5 @@ def read_circuit(text: str, path: str) -> Circuit:
     is_whole &= set(circuit.takes) == bits(circuit.widths["reg"])
     is_whole &= set(circuit.names.values()) == bits(circuit.inputs) | bits(circuit.widths["reg"])
     if not is_whole or "clock" not in circuit.widths["input"] or "legal" not in circuit.widths["output"]:
-        raise Fault(f"{path}: this is no whole circuit of {MODULE}")
+        raise Fault(f"{path}: the circuit of {MODULE} is incomplete")
     return circuit

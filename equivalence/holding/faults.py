@@ -1,4 +1,4 @@
-"""What ends a run before there is an answer."""
+"""Faults that end a run without a result."""
 
 from __future__ import annotations
 
@@ -6,7 +6,7 @@ DIFFERS, USAGE, FAILED, NOTHING_HELD = 1, 2, 3, 5
 
 
 class Fault(Exception):
-    """Something that was given isn't as it has to be, or a tool failed; with the status of the run."""
+    """An input is invalid or a tool failed; with the exit status."""
 
     def __init__(self, text: str, status: int = DIFFERS) -> None:
         super().__init__(text)

@@ -1,6 +1,6 @@
-"""And gates over literals, made once each, and what a solver is asked of them.
+"""AND gates over literals, each made once (structural hashing).
 
-A literal is twice the number of a signal, and one more where it is negated; signal 0 is false.
+A literal is twice the number of a signal, plus one if it is negated; signal 0 is false.
 """
 
 from __future__ import annotations
@@ -11,10 +11,10 @@ FALSE, TRUE = 0, 1
 
 
 class Gates:
-    """A circuit that grows. What is no gate in it is free."""
+    """A circuit that grows. A signal without a gate is free."""
 
     def __init__(self) -> None:
-        self.gates: dict[int, tuple[int, int]] = {}  # by their signals, each behind those that it reads
+        self.gates: dict[int, tuple[int, int]] = {}  # by their signals, each after those that it reads
         self.signals = 1
         self.known: dict[tuple[int, int], int] = {}
 
@@ -24,7 +24,7 @@ class Gates:
         return 2 * (self.signals - 1)
 
     def both(self, a: int, b: int) -> int:
-        """And: no gate where a side is known, or there is one already."""
+        """AND: no new gate if a side is constant, or if there is such a gate already."""
         a, b = min(a, b), max(a, b)
         if a == FALSE or a == b ^ 1:
             return FALSE
@@ -37,26 +37,26 @@ class Gates:
         return self.known[a, b]
 
     def either(self, a: int, b: int) -> int:
-        """Or."""
+        """OR."""
         return self.both(a ^ 1, b ^ 1) ^ 1
 
     def choose(self, test: int, a: int, b: int) -> int:
-        """The first where the test holds, else the second."""
+        """The first if the test is true, otherwise the second."""
         return a if a == b else self.either(self.both(test, a), self.both(test ^ 1, b))
 
     def differ(self, a: int, b: int) -> int:
-        """Exclusive or."""
+        """XOR."""
         return self.choose(a, b ^ 1, b)
 
     def all(self, *literals: int) -> int:
-        """And of many."""
+        """AND of many."""
         made = TRUE
         for literal in literals:
             made = self.both(made, literal)
         return made
 
     def cone(self, literal: int) -> list[int]:
-        """The signals that a literal depends on, each behind those that it reads itself."""
+        """The signals in a literal's cone of influence, each after those that it reads."""
         seen, waiting = {0}, [literal >> 1]
         while waiting:
             signal = waiting.pop()
@@ -66,7 +66,7 @@ class Gates:
         return sorted(seen - {0})
 
     def values(self, given: dict[int, bool]) -> list[bool]:
-        """The value of each signal, where the free ones have these; what isn't given is 0."""
+        """The value of each signal, given those of the free ones; a free signal without a value is 0."""
         made = [False] * self.signals
         for signal in range(1, self.signals):
             if signal in self.gates:

@@ -1,4 +1,4 @@
-"""Both controllers and their relation as one netlist of and gates and registers, and its bit times."""
+"""Both controllers and the register mapping as one netlist of gates and registers, and its bit times."""
 
 from __future__ import annotations
 
@@ -10,12 +10,12 @@ from holding.faults import Fault
 from holding.gates import FALSE, TRUE, Gates
 from holding.relation import Relation
 
-Key = Union[int, str]  # a bit of a netlist: yosys's number, or a name for one that yosys hasn't seen
+Key = Union[int, str]  # a bit of a netlist: yosys's number, or a name for one that yosys doesn't have
 Side = tuple[Key, bool]  # with whether it is negated
-PLANTED = "planted"
+MUTATION = "mutation"  # the input by which yosys chooses a mutation
 CLOCK = "clock"
 
-# what a cell makes of its pins S, A and B
+# the function of a cell, of its pins S, A and B
 KINDS: dict[str, Callable[..., int]] = {
     "$_BUF_": lambda gates, a: a,
     "$_NOT_": lambda gates, a: a ^ 1,
@@ -25,13 +25,13 @@ KINDS: dict[str, Callable[..., int]] = {
     "$_XNOR_": lambda gates, a, b: gates.differ(a, b) ^ 1,
     "$_MUX_": lambda gates, test, a, b: gates.choose(test, b, a),
 }
-LATCHES = {"$_DLATCH_P_": False, "$_DLATCH_N_": True}  # with whether they are open at 0
+LATCHES = {"$_DLATCH_P_": False, "$_DLATCH_N_": True}  # with whether they are transparent at 0
 
 
 def hierarchical(name: str, net: dict) -> str | None:
-    """A net's name with its instances, parted by dots; None where it is none of the text's.
+    """A net's name with its instances, separated by dots; None if it is no name of the source text.
 
-    A name with a dot of its own is what yosys makes of a hierarchical one, and is driven by nothing.
+    A name with a dot of its own is what yosys makes of a hierarchical name, and has no driver.
     """
     parts = net["attributes"].get("hdlname", name).split(" ")
     if net.get("hide_name") or len(parts) > 1 and any("." in part for part in parts):
@@ -46,17 +46,17 @@ def design_words(module: dict) -> dict[str, dict]:
 
 
 def declared_range(net: dict) -> str:
-    """A net's sign and range, as they are declared."""
+    """A net's signedness and range, as declared."""
     low, width = net.get("offset", 0), len(net["bits"])
     ends = (low, low + width - 1) if net.get("upto") else (low + width - 1, low)
     return f"{'signed ' if net.get('signed') else ''}[{ends[0]}:{ends[1]}]"
 
 
 class Netlist:
-    """What drives each bit, what each register takes, and the names of bits."""
+    """The driver of each bit, the next-state logic of each register, and the names of bits."""
 
     def __init__(self, module: dict, circuit: Circuit, relation: Relation) -> None:
-        self.drivers: dict[Key, tuple[str, list[Side]]] = {}  # a kind of KINDS, and what it reads
+        self.drivers: dict[Key, tuple[str, list[Side]]] = {}  # a kind of KINDS, and its inputs
         self.registers: dict[Key, Side] = {}
         self.unknown = 0
         self.circuit = circuit
@@ -65,7 +65,7 @@ class Netlist:
         self.parts = {name: self.keys(it["bits"]) for name, it in ports.items() if it["direction"] == "output"}
         self.words = {f"gates.{name}": self.circuit_word(name, width) for name, width in circuit.words.items()}
         self.words |= {name: self.keys(net["bits"]) for name, net in design_words(module).items()}
-        self.named: dict[Key, str] = {}  # bits of words, first by what the relation calls them
+        self.named: dict[Key, str] = {}  # bits of words, preferably by the mapping's names
         for name, net in module["netnames"].items():
             said = hierarchical(name, net)
             if said in relation.names:
@@ -76,13 +76,13 @@ class Netlist:
                 self.words.setdefault(said, self.keys(net["bits"]))
         self.take_circuit()
         if set(self.named.values()) != set(relation.names):
-            raise Fault("yosys has lost a word that the relation names")
+            raise Fault("yosys has removed a word that the register mapping names")
         for name, cell in module["cells"].items():
             self.take_cell(name, cell["type"], cell["connections"])
         self.name_others()
 
     def name_others(self) -> None:
-        """Names the bits that are reached by ports and not by names, and the relation's own registers."""
+        """Names the bits that the mapping reaches through ports, and the mapping's own registers."""
         inputs = {"0", "1", *(key for keys in self.inputs.values() for key in keys)}
         for name in sorted(self.words, key=lambda name: name.count(".")):
             is_own = not name.startswith(("gates.", "dut."))
@@ -91,7 +91,7 @@ class Netlist:
                     self.named.setdefault(key, name)
 
     def named_by(self, part: str) -> list[str]:
-        """The words of both controllers, and the relation's own registers, of which a part of the relation is."""
+        """The words of both controllers, and the mapping's own registers, that a part of the mapping depends on."""
         seen: set[Key] = set()
         waiting = list(self.parts[part])
         while waiting:
@@ -102,7 +102,7 @@ class Netlist:
         return sorted({self.named[key] for key in seen if key in self.named})
 
     def left_out(self, outputs: Iterable[str]) -> list[str]:
-        """Those of the circuit's outputs that no part of the relation depends on."""
+        """Those of the circuit's outputs that no part of the mapping depends on."""
         seen: set[Key] = set()
         waiting = [key for keys in self.parts.values() for key in keys]
         while waiting:
@@ -119,7 +119,7 @@ class Netlist:
         return [name for name in outputs if f"gates.{name}" not in named]
 
     def keys(self, bits: Iterable[Key]) -> list[Key]:
-        """Bits as yosys writes them; each one that it doesn't know is another one."""
+        """Bits as yosys writes them; each undefined one is a new free bit."""
         made: list[Key] = []
         for bit in bits:
             if bit in ("x", "z"):
@@ -129,7 +129,7 @@ class Netlist:
         return made
 
     def join(self, bits: Iterable[Key], keys: Iterable[Key]) -> None:
-        """The first are the second."""
+        """Connects the first bits to the second."""
         for bit, key in zip(bits, keys):
             self.drivers[bit] = ("$_BUF_", [(key, False)])
 
@@ -143,7 +143,7 @@ class Netlist:
         return [f"{name}[{place}]" for place in range(width)]
 
     def take_circuit(self) -> None:
-        """The circuit's gates, its outputs and what its registers take."""
+        """Adds the circuit's gates, its outputs and its next-state logic."""
 
         def key(side: tuple[int, bool]) -> Side:
             if side[0] == 0:
@@ -159,45 +159,45 @@ class Netlist:
             self.registers[f"{name}[{place}]"] = key(side)
 
     def take_cell(self, name: str, kind: str, pins: dict[str, list[Key]]) -> None:
-        """One cell. Raises Fault for what a bit time can't be made of."""
+        """Adds a cell. Raises Fault for one that is neither a gate nor a register of the clock."""
         if kind == MODULE:
             self.take_instance(pins)
         elif kind in KINDS:
             read = [bit for pin in "SAB" for bit in self.keys(pins.get(pin, []))]
             self.drivers[pins["Y"][0]] = (kind, [(key, False) for key in read])
         elif kind in LATCHES:
-            # what a latch holds counts as any level
+            # a latch that is not transparent counts as having any value
             sides = self.keys([pins["E"][0], "x", pins["D"][0]])
             self.drivers[pins["Q"][0]] = ("$_MUX_", [(sides[0], LATCHES[kind]), (sides[1], False), (sides[2], False)])
         elif kind == "$_DFF_P_":
             if pins["C"] != self.inputs.get(CLOCK):
-                raise Fault(f"{name}: a register has another clock than the relation's input {CLOCK}")
+                raise Fault(f"{name}: a register has a clock other than the mapping's input {CLOCK}")
             (taken,) = self.keys(pins["D"])
             self.registers[pins["Q"][0]] = (taken, False)
         else:
-            raise Fault(f"{name}: {kind} is neither a gate nor a register with the rising edge of {CLOCK}")
+            raise Fault(f"{name}: {kind} is neither a gate nor a register on the rising edge of {CLOCK}")
 
     def take_instance(self, pins: dict[str, list[Key]]) -> None:
-        """The circuit's connections."""
+        """Connects the circuit's ports."""
         for name, width in self.circuit.inputs.items():
             if len(pins.get(name, [])) != width:
-                raise Fault(f"the relation connects no {width} bits to gates.{name}")
+                raise Fault(f"the register mapping must connect gates.{name} (width {width})")
             self.join(self.circuit_word(name, width), self.keys(pins[name]))
         if pins.get(CLOCK) != self.inputs.get(CLOCK):
-            raise Fault(f"the relation connects another clock to gates.{CLOCK} than its input {CLOCK}")
+            raise Fault(f"the register mapping must connect its input {CLOCK} to gates.{CLOCK}")
         for name, width in self.circuit.widths["output"].items():
             self.join(pins.get(name, []), self.circuit_word(name, width))
 
 
 class BitTime:
-    """One bit time: what its registers hold is given, or free; so are its inputs."""
+    """One bit time: the values of its registers and inputs are given or free."""
 
     def __init__(self, gates: Gates, netlist: Netlist, given: Mapping[Key, int]) -> None:
         self.gates, self.netlist = gates, netlist
         self.literals: dict[Key, int] = {"0": FALSE, "1": TRUE, **given}
 
     def literal(self, key: Key) -> int:
-        """What a bit is. Raises Fault where it is driven by itself."""
+        """The literal of a bit. Raises Fault for a combinational loop."""
         waiting, open_keys = [key], set()
         while waiting:
             at = waiting[-1]
@@ -213,7 +213,7 @@ class BitTime:
                 read = [self.literals[side] ^ negated for side, negated in sides]
                 self.literals[at] = KINDS[kind](self.gates, *read)
             elif at in open_keys:
-                raise Fault("a bit is driven by itself: a loop without a register")
+                raise Fault("the design has a combinational loop")
             else:
                 open_keys.add(at)
                 waiting += missing
@@ -224,11 +224,11 @@ class BitTime:
         return [self.literal(key) for key in self.netlist.words[name]]
 
     def all(self, prefix: str) -> int:
-        """Whether all parts with this prefix hold."""
+        """Whether all parts with this prefix are 1."""
         parts = self.netlist.parts
         return self.gates.all(*(self.literal(parts[name][0]) for name in parts if name.startswith(prefix)))
 
     def next(self) -> BitTime:
-        """The bit time behind this one."""
+        """The bit time after this one."""
         taken = {held: self.literal(key) ^ negated for held, (key, negated) in self.netlist.registers.items()}
         return BitTime(self.gates, self.netlist, taken)

@@ -1,4 +1,4 @@
-"""How yosys reads a design together with its relation, and plants mistakes in it."""
+"""How yosys reads a design together with the register mapping, and injects mutations into it."""
 
 from __future__ import annotations
 
@@ -8,25 +8,25 @@ from dataclasses import dataclass
 
 from holding.circuit import Circuit
 from holding.faults import Fault
-from holding.netlist import PLANTED, Netlist, declared_range, design_words
+from holding.netlist import MUTATION, Netlist, declared_range, design_words
 from holding.relation import Relation
 from holding.tools import ran_yosys, read_netlist, synthesized
 
-MISTAKES = 7
+MUTATIONS = 7
 FIELDS = pathlib.Path(__file__).resolve().parent.parent / "fields.v"
-WIDEST = "[127:0]"  # any will do to find the names
+WIDEST = "[127:0]"  # wide enough to find the names
 
 
 @dataclass
 class Design:
-    """The files of a design, in Verilog or VHDL, with what is defined for the former."""
+    """The files of a design, in Verilog or VHDL, with include folders and macros for Verilog."""
 
     files: Sequence[str]
     folders: Sequence[str]
     defines: Sequence[str]
 
     def in_verilog(self, top: str, room: pathlib.Path) -> Design:
-        """The design with those of its files that are in VHDL synthesized."""
+        """The design with its VHDL files replaced by the Verilog that GHDL synthesizes."""
         vhdl = [it for it in self.files if it.endswith((".vhd", ".vhdl"))]
         if not vhdl:
             return self
@@ -34,7 +34,7 @@ class Design:
         return Design([*others, str(synthesized(vhdl, top, room))], self.folders, self.defines)
 
     def reading(self, room: pathlib.Path) -> str:
-        """The command by which yosys reads them. It takes no blanks in the names of folders: these get links."""
+        """The command by which yosys reads them. It takes no spaces in names of folders: these get links."""
         words = ["-sv"] if any(it.endswith(".sv") for it in self.files) else []
         for number, folder in enumerate(self.folders):
             link = room / f"included-{number}"
@@ -62,7 +62,7 @@ def flattened(
 
 
 def named_ranges(design: Design, circuit: Circuit, relation: Relation, room: pathlib.Path) -> dict[str, str]:
-    """The ranges of the words that a relation names. Raises Fault for one that isn't there."""
+    """The ranges of the words that a register mapping names. Raises Fault for one that doesn't exist."""
     wide = dict.fromkeys(relation.names, WIDEST)
     script = flattened(design, circuit, relation, wide, room)
     ran_yosys([*script, "write_json names.json"], room)
@@ -71,37 +71,38 @@ def named_ranges(design: Design, circuit: Circuit, relation: Relation, room: pat
     ranges |= {name: declared_range(net) for name, net in nets.items()}
     gone = [name for name in relation.names if name not in ranges]
     if gone:
-        raise Fault(f"{relation.path}: it names what is not there: {' '.join(gone)}")
+        raise Fault(f"{relation.path}: no such register, output or signal: {' '.join(gone)}")
     return {name: ranges[name] for name in relation.names}
 
 
 def read_both(
     design: Design, circuit: Circuit, relation: Relation, room: pathlib.Path, smoke: bool = False
 ) -> Netlist:
-    """All of it as a netlist; its input `planted` is the number of a mistake in the design, or 0."""
+    """All of it as a netlist; its input `mutation` is the number of a mutation in the design, or 0 for none."""
     design = design.in_verilog(relation.top, room)
     ranges = named_ranges(design, circuit, relation, room)
     script = flattened(design, circuit, relation, ranges, room)
     script += ["setattr -set keep 1 w:*", "async2sync t:* t:$dlatch %d", "memory", "dffunmap"]
-    script += planting(relation, smoke)
+    script += injecting(relation, smoke)
     script += ["opt_expr", "opt_merge", "opt_clean", "techmap", "dffunmap", "opt_clean", "write_json netlist.json"]
     ran_yosys(script, room)
     return Netlist(read_netlist(room / "netlist.json", relation.module), circuit, relation)
 
 
-def planting(relation: Relation, smoke: bool) -> list[str]:
-    """The commands that plant mistakes: each inverts a bit that a register of the design takes.
+def injecting(relation: Relation, smoke: bool) -> list[str]:
+    """The commands that inject mutations: each inverts one bit of the next value of a register of the design.
 
-    Without `smoke` it is a register that the relation names, else one on which a named word depends; any one where
-    the relation names none.
+    Without `smoke` it is a register that the mapping names; with it, one that a named word depends on. If the mapping
+    names none, it is any register.
     """
     names = [name for name in relation.names if name.startswith("dut.")]
     nets = " ".join(f"a:hdlname={name.replace('.', '?')}" for name in names or ["dut.*"])
-    behind = "%ci*" if smoke else "%ci3"
+    cone = "%ci*" if smoke else "%ci3"
+    width = MUTATIONS.bit_length()
     return [
         f"select -set named {nets}",
         "select -set words a:hdlname=dut*",
-        f"select -set registers @named {behind} @words %ci3 %i t:$dff %i",
-        f"mutate -list {MISTAKES} -mode inv -port \\D -ctrl {PLANTED} {MISTAKES.bit_length()} 1 -o plant.ys @registers",
-        "script plant.ys",
+        f"select -set registers @named {cone} @words %ci3 %i t:$dff %i",
+        f"mutate -list {MUTATIONS} -mode inv -port \\D -ctrl {MUTATION} {width} 1 -o inject.ys @registers",
+        "script inject.ys",
     ]

@@ -1,6 +1,7 @@
-"""The relation: a module of Verilog with the circuit (`gates`) and the design (`dut`) in it, as it is written.
+"""The register mapping ("relation"): a Verilog module that instantiates the circuit (`gates`) and the design (`dut`).
 
-Its outputs are its parts: `holds_..` relates registers, `same_..` compares outputs, `given_..` is assumed of inputs.
+Its outputs are its parts: `holds_..` is an invariant of registers, `same_..` compares outputs, `given_..` is an
+assumption on inputs.
 """
 
 from __future__ import annotations
@@ -19,7 +20,7 @@ HEAD = re.compile(r"\bmodule\s+(\w+)\b[^;]*;", re.S)
 
 @dataclass
 class Relation:
-    """The text of a relation, what it is called, and which words of the circuit and of the design it names."""
+    """The text of a register mapping, its module, and the words of circuit and design that it names."""
 
     path: str
     text: str
@@ -29,25 +30,25 @@ class Relation:
     head_end: int
 
     def declaring(self, ranges: dict[str, str]) -> str:
-        """The text with the words that it names declared, with these ranges, in its head's last line."""
+        """The text with the words that it names declared, with these ranges, at the end of the module's header."""
         words = [f"wire {ranges[name]} \\{name} ;" for name in self.names]
         return " ".join([self.text[: self.head_end], *words]) + self.text[self.head_end :]
 
 
 def blanked(text: str) -> str:
-    """The text with blanks for its comments and strings: all else stands where it stood."""
+    """The text with spaces in place of comments and strings, so that all else keeps its position."""
     return COMMENT.sub(lambda found: re.sub(r"[^\n]", " ", found[0]), text)
 
 
 def read_relation(text: str, path: str) -> Relation:
-    """The relation of a text. Raises Fault where it isn't one module with both instances in it."""
+    """The register mapping in a text. Raises Fault unless it is one module with both instances."""
     code = blanked(text)
     heads = list(HEAD.finditer(code))
     if len(heads) != 1:
-        raise Fault(f"{path}: {len(heads)} modules, where the relation is one")
+        raise Fault(f"{path}: the register mapping must be one module, and the file has {len(heads)}")
     instances = [(found[2], found[1]) for found in INSTANCE.finditer(code)]
     tops = [module for name, module in instances if name == "dut"]
     if ("gates", MODULE) not in instances or len(tops) != 1 or len(instances) != 2:
-        raise Fault(f"{path}: it has not one instance `gates` of {MODULE}, and one `dut` of the design")
+        raise Fault(f"{path}: the module must have one instance `gates` of {MODULE}, and one `dut` of the design")
     names = {found[1] + re.sub(r"\s", "", found[2]): None for found in NAMED.finditer(code)}
     return Relation(path, text, heads[0][1], tops[0], list(names), heads[0].end())

@@ -1,4 +1,4 @@
-"""The tools behind the questions: yosys reads Verilog, cadical or berkeley-abc answers."""
+"""The tools: yosys reads Verilog, GHDL synthesizes VHDL, and cadical or berkeley-abc is the solver."""
 
 from __future__ import annotations
 
@@ -19,25 +19,25 @@ PACKAGES = {"yosys": "yosys", "cadical": "cadical", "berkeley-abc": "berkeley-ab
 
 
 def needed(command: str) -> str:
-    """A command that is there. Raises Fault where it isn't."""
+    """A command that is installed. Raises Fault if it isn't."""
     if shutil.which(command) is None:
-        raise Fault(f"{command} is not there: apt-get install {PACKAGES.get(command, command)}", FAILED)
+        raise Fault(f"{command} is not installed: apt-get install {PACKAGES.get(command, command)}", FAILED)
     return command
 
 
 def solver_named(name: str | None) -> str:
-    """The solver of this name, or one that is there."""
+    """The solver of this name, or one that is installed."""
     if name:
         needed(SOLVERS[name])
         return name
     for known, command in SOLVERS.items():
         if shutil.which(command):
             return known
-    raise Fault("neither cadical nor berkeley-abc is there: apt-get install cadical", FAILED)
+    raise Fault("neither cadical nor berkeley-abc is installed: apt-get install cadical", FAILED)
 
 
 def ran_yosys(script: Sequence[str], room: pathlib.Path) -> None:
-    """Runs yosys over a script. Raises Fault with what it says where it fails."""
+    """Runs yosys on a script. Raises Fault with its errors if it fails."""
     path = room / "script.ys"
     path.write_text("\n".join(script) + "\n")
     command = [needed("yosys"), "-q", "-s", path.name]
@@ -50,7 +50,7 @@ def ran_yosys(script: Sequence[str], room: pathlib.Path) -> None:
 
 
 def synthesized(files: Sequence[str], top: str, room: pathlib.Path) -> pathlib.Path:
-    """A design in VHDL as Verilog, by GHDL. Raises Fault with what it says where it fails."""
+    """A design in VHDL as Verilog, by GHDL. Raises Fault with its errors if it fails."""
     made = room / "synthesized.v"
     command = [needed("ghdl"), "--synth", "--std=08", "--out=verilog", *files, "-e", top]
     ran = subprocess.run(command, cwd=room, capture_output=True, text=True)
@@ -62,30 +62,30 @@ def synthesized(files: Sequence[str], top: str, room: pathlib.Path) -> pathlib.P
 
 
 def read_netlist(path: pathlib.Path, module: str) -> dict:
-    """A module of what yosys wrote."""
+    """A module of the JSON file that yosys wrote."""
     return json.loads(path.read_text())["modules"][module]
 
 
 @dataclass
 class Clauses:
-    """That a literal is true, one clause, and what each gate is on which it depends, three each."""
+    """CNF of a literal (Tseitin): one clause for the literal, three for each gate in its cone."""
 
     numbers: dict[int, int]  # of signals, from 1 on
     count: int
     lines: str
 
     def number(self, literal: int) -> int:
-        """A literal as it stands in a clause."""
+        """A literal as a number in a clause."""
         return -self.numbers[literal >> 1] if literal & 1 else self.numbers[literal >> 1]
 
     def text(self, given: Iterable[int]) -> str:
-        """The file of a question, in which these literals are true too."""
+        """The DIMACS text, with these literals as further unit clauses."""
         units = [f"{self.number(literal)} 0\n" for literal in given if literal >> 1 in self.numbers]
         return "".join([f"p cnf {len(self.numbers)} {self.count + len(units)}\n", *units, self.lines])
 
 
 def clauses_of(gates: Gates, literal: int) -> Clauses:
-    """The clauses of a literal that isn't known."""
+    """The clauses of a literal that isn't constant."""
     cone = gates.cone(literal)
     made = Clauses({signal: number for number, signal in enumerate(cone, 1)}, 0, "")
     lines = [f"{made.number(literal)} 0"]
@@ -98,64 +98,64 @@ def clauses_of(gates: Gates, literal: int) -> Clauses:
 
 
 class Solver:
-    """Asks whether a literal can be true."""
+    """Runs a SAT solver to find out whether a literal can be true."""
 
     def __init__(self, name: str, room: pathlib.Path, seconds: int | None) -> None:
         self.name, self.room, self.seconds = name, room, seconds
 
     def ask(self, gates: Gates, literal: int) -> dict[int, bool] | None:
-        """Values of free signals that make it true; None where there are none. Raises Fault where it isn't told."""
+        """Values of free signals that make it true; None if unsatisfiable. Raises Fault if the solver fails."""
         if literal < 2:
             return {} if literal else None
         return self.ask_cadical(gates, literal) if self.name == "cadical" else self.ask_abc(gates, literal)
 
     def run(self, command: list[str], given: str) -> tuple[int, str]:
-        """Runs a solver over what it is given, and gives its status and what it said."""
+        """Runs a solver on this standard input, and returns its status and its output."""
         try:
             ran = subprocess.run(
                 command, input=given, stdout=subprocess.PIPE, stderr=subprocess.STDOUT, text=True, timeout=self.seconds
             )
         except subprocess.TimeoutExpired:
-            raise Fault(f"{command[0]} has not answered in {self.seconds} s", FAILED) from None
+            raise Fault(f"{command[0]} found no result in {self.seconds} s", FAILED) from None
         return ran.returncode, ran.stdout
 
     def ask_cadical(self, gates: Gates, literal: int) -> dict[int, bool] | None:
-        """The same of CaDiCaL."""
+        """`ask` with CaDiCaL."""
         clauses = clauses_of(gates, literal)
-        true = self.answer(clauses, ())
+        true = self.model(clauses, ())
         if true is None:
             return None
         return {signal: number in true for signal, number in clauses.numbers.items() if signal not in gates.gates}
 
-    def answer(self, clauses: Clauses, given: Iterable[int]) -> set[int] | None:
-        """The numbers of signals that are true where all clauses hold, and these literals too, by CaDiCaL."""
-        status, said = self.run([needed("cadical"), "-q"], clauses.text(given))
+    def model(self, clauses: Clauses, given: Iterable[int]) -> set[int] | None:
+        """The numbers of the signals that are true in a model of clauses and literals; None if there is none."""
+        status, output = self.run([needed("cadical"), "-q"], clauses.text(given))
         if status == 20:
             return None
         if status != 10:
             raise Fault(f"cadical ended with status {status}", FAILED)
-        return {int(word) for line in said.splitlines() if line.startswith("v") for word in line.split()[1:]}
+        return {int(word) for line in output.splitlines() if line.startswith("v") for word in line.split()[1:]}
 
     def ask_abc(self, gates: Gates, literal: int) -> dict[int, bool] | None:
-        """The same of ABC: the literal is the one output of a circuit without registers."""
+        """`ask` with ABC: the literal is the one output of a circuit without registers."""
         cone = gates.cone(literal)
         free = [signal for signal in cone if signal not in gates.gates]
         made = [signal for signal in cone if signal in gates.gates]
-        path, told = self.room / "asked.aig", self.room / "told.cex"
+        path, found = self.room / "query.aig", self.room / "found.cex"
         path.write_bytes(aiger(gates, literal, free, made))
-        told.unlink(missing_ok=True)
-        script = f"read_aiger {path}; sat; write_cex -n {told}"
-        status, said = self.run([needed("berkeley-abc"), "-q", script], "")
-        if "UNSATISFIABLE" in said:
+        found.unlink(missing_ok=True)
+        script = f"read_aiger {path}; sat; write_cex -n {found}"
+        status, output = self.run([needed("berkeley-abc"), "-q", script], "")
+        if "UNSATISFIABLE" in output:
             return None
-        if "SATISFIABLE" not in said or not told.exists():
-            raise Fault(f"berkeley-abc ended with status {status}: {said.strip()}", FAILED)
-        true = {word.split("=")[0] for word in told.read_text().split() if word.endswith("=1")}
+        if "SATISFIABLE" not in output or not found.exists():
+            raise Fault(f"berkeley-abc ended with status {status}: {output.strip()}", FAILED)
+        true = {word.split("=")[0] for word in found.read_text().split() if word.endswith("=1")}
         return {signal: f"i{signal}" in true for signal in free}
 
 
 def aiger(gates: Gates, literal: int, free: list[int], made: list[int]) -> bytes:
-    """A literal as the output of a circuit in AIGER's binary form; inputs are named by their signals."""
+    """A literal as the output of a circuit in the binary AIGER format; inputs are named after their signals."""
     numbers = {signal: number for number, signal in enumerate([0, *free, *made])}
 
     def number(side: int) -> int:

@@ -1,18 +1,18 @@
-"""Bit times as a VCD: ten units each, with the clock's rising edge at the beginning of each."""
+"""Bit times as VCD: ten time units each, beginning with the rising edge of the clock."""
 
 from __future__ import annotations
 
 import string
 from collections.abc import Iterator
 
-from holding.asking import Found
+from holding.asking import Counterexample
 from holding.netlist import CLOCK
 
 DIGITS = string.ascii_letters + string.digits
 
 
 def identifier(number: int) -> str:
-    """A short name for a variable."""
+    """A short identifier code for a variable."""
     text = ""
     while number or not text:
         number, digit = divmod(number, len(DIGITS))
@@ -35,13 +35,13 @@ def scopes(words: dict[str, int]) -> Iterator[str]:
     yield from ["$upscope $end"] * len(within)
 
 
-def waves(found: Found) -> str:
-    """The bit times of what was found."""
+def waves(found: Counterexample) -> str:
+    """The bit times of a counterexample."""
     netlist = found.bit_times[0].netlist
     names = sorted(netlist.words, key=lambda name: name.split("."))
     words = {name: len(netlist.words[name]) for name in names if netlist.words[name] != netlist.inputs[CLOCK]}
     clock = identifier(len(words))
-    lines = ["$comment a unit is a tenth of a bit time $end", "$timescale 1 ns $end", "$scope module held $end"]
+    lines = ["$comment ten time units are one bit time $end", "$timescale 1 ns $end", "$scope module equivalence $end"]
     lines += [*scopes(words), f"$var wire 1 {clock} {CLOCK} $end", "$upscope $end", "$enddefinitions $end"]
     before: dict[str, str] = {}
     for at in range(len(found.bit_times)):

@@ -1,6 +1,6 @@
-"""A controller by docs/ACCESS.md and docs/FRAMES.md, as a circuit with the ports and registers of the proved one.
+"""A controller written from docs/ACCESS.md and docs/FRAMES.md, with the ports and registers of the verified circuit.
 
-It shares no code with that: its gates come from here alone.
+It shares no code with that circuit.
 """
 
 from __future__ import annotations
@@ -53,25 +53,25 @@ def nibble(number: int) -> Word:
 
 @dataclass
 class Move:
-    """What a level makes of a controller: what its registers take, what is counted and what is told."""
+    """The effect of a bus level: the next values of registers, what the error counters count, and the event."""
 
     phase: Word
     place: Word
-    last: int  # of a passive flag: its last level
+    last: int  # in a passive error flag: its last level
     unacknowledged: int
-    first: int  # behind a flag: no level has come yet
+    first: int  # after a flag: no level has come yet
     sender: int
     pending: Word
     used: Word
     cause: Word
     event: Word
-    takes: int = FALSE  # the frame that waits becomes its own
+    takes: int = FALSE  # the pending frame is transmitted from now on
     begins: int = FALSE  # the level is a start of frame
     hears: int = FALSE  # the level is one of the stuffed part
 
 
 class Controller:
-    """The circuit while it is made."""
+    """The circuit while it is built."""
 
     def __init__(self) -> None:
         self.graph = Graph()
@@ -94,48 +94,48 @@ class Controller:
     def declare_inputs(self) -> None:
         """The circuit's inputs."""
         put = self.graph.input
-        (self.reset,) = put("reset", 1, "an idle controller, or one that joins, whatever `enable` is")
-        (self.joins,) = put("joins", 1, "with `reset`: it waits for eleven recessive levels first")
-        (self.enable,) = put("enable", 1, "a bit time passes; where it is 0 nothing changes")
-        (self.bus,) = put("bus", 1, "the level that is sampled: 1 is recessive")
-        (self.hold,) = put("hold", 1, "with `enable`: own overload frames are asked for, before the bit time")
-        self.hold_wish = put("hold_wish", 2, "how many, 0 to 2; 3 is refused, and changes nothing")
-        (self.waits,) = put("waits", 1, "a frame waits to be sent")
+        (self.reset,) = put("reset", 1, "loads the idle state, or that of bus integration, whatever `enable` is")
+        (self.joins,) = put("joins", 1, "with `reset`: bus integration, it waits for eleven recessive levels first")
+        (self.enable,) = put("enable", 1, "a bit time passes; if it is 0, nothing changes")
+        (self.bus,) = put("bus", 1, "the sampled level: 1 is recessive")
+        (self.hold,) = put("hold", 1, "with `enable`: requests own overload frames, before the bit time")
+        self.hold_wish = put("hold_wish", 2, "how many, 0 to 2; 3 changes nothing")
+        (self.waits,) = put("waits", 1, "a frame is pending")
         self.waiting = Frame(
             put("wait_extended", 1, "it has an extended identifier"),
             put("wait_remote", 1, "it is a remote frame"),
-            put("wait_identifier", 29, "a standard one stands in the lowest 11 bits"),
+            put("wait_identifier", 29, "a standard one is in the lowest 11 bits"),
             put("wait_dlc", 4, "its data length code"),
-            put("wait_data", 64, "byte k stands at [8*k +: 8]"),
+            put("wait_data", 64, "byte k is at [8*k +: 8]"),
         )
 
     def declare_registers(self) -> None:
         """The circuit's registers."""
         put = self.graph.register
         self.phase = put("phase", 4, "idle 0, joining 1, stuffed part 2, .., bus off 14")
-        self.place = put("place", 4, "in the phase, or how many levels in a row it has counted")
-        (self.last,) = put("last", 1, "in a passive flag: its last level was recessive")
-        (self.unacknowledged,) = put("unacknowledged", 1, "in a passive flag: of a missing acknowledgement")
-        (self.first,) = put("first", 1, "behind a flag: the next level is the first one behind an error flag")
-        (self.sender,) = put("sender", 1, "of the frame on the bus")
-        self.pending = put("pending", 4, "own overload frames that are asked for")
+        self.place = put("place", 4, "the position in the phase, or a count of levels in a row")
+        (self.last,) = put("last", 1, "in a passive error flag: its last level was recessive")
+        (self.unacknowledged,) = put("unacknowledged", 1, "in a passive error flag: that of a missing acknowledgement")
+        (self.first,) = put("first", 1, "after a flag: the next level is the first after an error flag")
+        (self.sender,) = put("sender", 1, "transmitter of the frame on the bus")
+        self.pending = put("pending", 4, "own overload frames that are requested")
         self.used = put("used", 4, "own overload frames since the last start of frame")
         self.tec = put("tec_count", 9, "TEC")
         self.rec = put("rec_count", 8, "REC")
-        self.occurrences = put("occurrences", 7, "off the bus: rows of eleven recessive levels")
+        self.occurrences = put("occurrences", 7, "bus off: sequences of eleven recessive levels")
         self.front = Front(
-            put("heard", 103, "of the frame on the bus: the unstuffed level at each place; dominant past those heard"),
-            put("heard_count", 7, "how many levels are heard, stuff bits left out"),
-            put("heard_last", 1, "the last level, a stuff bit too")[0],
-            put("heard_run", 4, "levels up to the last one that equal it"),
-            put("heard_check", 15, "the running check sequence, the level that is sent first at [0]"),
+            put("heard", 103, "the frame on the bus: the destuffed level at each position, 0 past those received"),
+            put("heard_count", 7, "how many levels were received, without stuff bits"),
+            put("heard_last", 1, "the last level, also that of a stuff bit")[0],
+            put("heard_run", 4, "how many equal levels end with the last one"),
+            put("heard_check", 15, "the CRC register, the level that is sent first at [0]"),
         )
-        self.own = put("own", 103, "of the frame that is sent: the level at each place, up to its data's end")
+        self.own = put("own", 103, "the transmitted frame, as in `heard`, but complete")
 
     # moves
 
     def goes(self, phase: int, place: Word | None = None, event: int = NOTHING, cause: int = UNCOUNTED) -> Move:
-        """To a phase; all else as it is."""
+        """A move to a phase, with no other effect."""
         return Move(
             phase=nibble(phase),
             place=place or nibble(0),
@@ -150,7 +150,7 @@ class Controller:
         )
 
     def choose(self, test: int, a: Move, b: Move) -> Move:
-        """The first move where the test holds, else the second."""
+        """The first move if the test is true, otherwise the second."""
         if test in (TRUE, FALSE):
             return a if test else b
         made: dict[str, Any] = {}
@@ -161,21 +161,21 @@ class Controller:
         return Move(**made)
 
     def fails(self, event: Word, cause: Word, unacknowledged: int = FALSE) -> Move:
-        """An error flag begins: a passive one where the controller is passive."""
+        """An error flag begins: a passive one if the controller is error passive."""
         active = replace(self.goes(ERROR_FLAG), event=event, cause=cause)
         passive = replace(self.goes(PASSIVE_FLAG), event=event, cause=cause, last=TRUE, unacknowledged=unacknowledged)
         return self.choose(self.passive, passive, active)
 
     def error_cause(self, receiver: int = RECEIVER_BY_1) -> Word:
-        """What an error counts."""
+        """The cause of counting for an error."""
         return self.graph.select(self.sender, nibble(SENDER_BY_8), nibble(receiver))
 
     def errs(self, event: int) -> Move:
-        """An error of this kind, which counts."""
+        """An error of this kind, which is counted."""
         return self.fails(nibble(event), self.error_cause())
 
     def breaks_form(self) -> Move:
-        """A dominant level where the form is recessive."""
+        """A dominant level in a fixed-form field."""
         event = self.graph.select(self.sender, nibble(BIT_ERROR), nibble(FORM_ERROR))
         return self.fails(event, self.error_cause())
 
@@ -188,18 +188,18 @@ class Controller:
         return replace(self.goes(STUFFED_PART), sender=sends, takes=sends, begins=TRUE, used=nibble(0))
 
     def closes(self) -> Move:
-        """Intermission is entered, or an own overload frame in its place."""
+        """Intermission begins, or an own overload frame instead."""
         graph = self.graph
         asks = graph.all(self.receiver, graph.is_number(self.wish, 0) ^ 1, graph.is_under(self.used, 2))
         own = replace(self.overloads(), pending=graph.less(self.wish), used=graph.more(self.used))
         return self.choose(asks, own, self.goes(INTERMISSION))
 
     def under(self, number: int) -> int:
-        """Whether the place is less."""
+        """Whether the position is less."""
         return self.graph.is_under(self.place, number)
 
     def step(self, phase: int) -> Move:
-        """On in the same phase."""
+        """The next position in the same phase."""
         return self.goes(phase, self.next_place)
 
     # between frames
@@ -302,7 +302,7 @@ class Controller:
         return self.choose(graph.is_under(run, 6), goes_on, ended)
 
     def behind_flag(self) -> Move:
-        """Rule Behind a flag: the place counts dominant levels, modulo eight."""
+        """Rule Behind a flag: `place` counts dominant levels, modulo eight."""
         graph = self.graph
         eighth = self.under(7) ^ 1
         counts = graph.either(eighth, graph.both(self.receiver, self.first))
@@ -318,12 +318,12 @@ class Controller:
         return self.choose(self.dominant, broken, silent)
 
     def bus_off(self) -> Move:
-        """Rule Bus off: the place is the row."""
+        """Rule Bus off: `place` counts recessive levels in a row."""
         row = self.graph.select(self.graph.either(self.dominant, self.under(10) ^ 1), nibble(0), self.next_place)
         return self.choose(self.recovers, self.goes(IDLE, event=RECOVERED), self.goes(BUS_OFF, row))
 
     def moved(self) -> Move:
-        """The move of the phase, before it is counted."""
+        """The move of the current phase, before counters change."""
         moves = {
             IDLE: self.idle(),
             JOINING: self.joining(),
@@ -348,7 +348,7 @@ class Controller:
     # counters
 
     def counted(self, cause: Word) -> tuple[Word, Word]:
-        """TEC and REC behind a cause."""
+        """TEC and REC after a cause of counting."""
         graph, tec, rec = self.graph, self.tec, self.rec
         causes = [graph.is_number(cause, number) for number in range(6)]
         by = graph.select(causes[RECEIVER_BY_8], constant(8, 8), constant(1, 8))
@@ -381,13 +381,13 @@ class Controller:
         return graph
 
     def take(self, register: Word, word: Word, cleared: Word | None = None) -> None:
-        """What a register takes: with `reset` what is given, without `enable` what it holds."""
+        """Sets a register's next value: with `reset` that in `cleared`, without `enable` its present value."""
         graph = self.graph
         kept = graph.select(self.enable, word, register)
         graph.take(register, graph.select(self.reset, cleared or constant(0, len(register)), kept))
 
     def take_all(self, move: Move, counters: list[tuple[Word, Word]]) -> None:
-        """What all registers take."""
+        """Sets the next values of all registers."""
         graph = self.graph
         self.take(self.phase, move.phase, [self.joins, FALSE, FALSE, FALSE])
         for register, word in [(self.place, move.place), (self.pending, move.pending), (self.used, move.used)]:
@@ -405,7 +405,7 @@ class Controller:
     # outputs
 
     def driven(self) -> int:
-        """The level that is driven."""
+        """The driven level."""
         graph, front, is_in = self.graph, self.front, self.is_in
         stuff_bit = front.last ^ 1
         sent = graph.choose(front.is_stuff_due(graph), stuff_bit, front.next_sent(graph, self.own))
@@ -421,25 +421,25 @@ class Controller:
     def put_outputs(self, move: Move) -> None:
         """All outputs."""
         graph, put = self.graph, self.graph.output
-        put("drive", [self.driven()], "the level that is driven in this bit time")
+        put("drive", [self.driven()], "the driven level of this bit time")
         passes = graph.both(self.enable, self.reset ^ 1)
         put("told", [graph.both(passes, literal) for literal in move.event], "the event of this bit time, or 0")
         is_sent = graph.is_number(move.event, SENT)
         frame = heard_frame(graph, self.own).chosen(graph, is_sent, heard_frame(graph, self.front.levels))
         frame = masked(graph, frame)
-        put("frame_extended", frame.extended, "of a frame that is sent or received; at other times any")
-        put("frame_remote", frame.remote, "the same")
-        put("frame_identifier", frame.identifier, "the same")
-        put("frame_dlc", frame.dlc, "the same")
-        put("frame_data", frame.data, "the same; bytes past the data length are 0")
-        put("tec", self.tec, "TEC, as it is held")
-        put("rec", self.rec, "REC, as it is held")
+        put("frame_extended", frame.extended, "of the frame that is sent or received; at other times undefined")
+        put("frame_remote", frame.remote, "it is a remote frame")
+        put("frame_identifier", frame.identifier, "its identifier")
+        put("frame_dlc", frame.dlc, "its data length code")
+        put("frame_data", frame.data, "its data; bytes past the data length are 0")
+        put("tec", self.tec, "TEC before this bit time")
+        put("rec", self.rec, "REC before this bit time")
         put("passive", [self.passive], "a counter is at least 128")
-        put("off", [self.is_in[BUS_OFF]], "off the bus")
+        put("off", [self.is_in[BUS_OFF]], "bus off")
         put("legal", [self.legal()], "1 in every state that a run from reset reaches")
 
     def legal(self) -> int:
-        """What holds of the registers in every run from reset."""
+        """An invariant of the registers in every run from reset."""
         graph, is_in, front = self.graph, self.is_in, self.front
         most = {JOINING: 11, END_OF_FRAME: 7, ERROR_FLAG: 6, PASSIVE_FLAG: 6, OVERLOAD_FLAG: 6, BEHIND_FLAG: 8}
         most |= {DELIMITER: 8, INTERMISSION: 3, SUSPEND: 8, BUS_OFF: 11}

@@ -1,4 +1,4 @@
-"""Frames as words, and what is heard of a frame's stuffed part, level by level."""
+"""Frames as words, and what has been received of a frame's stuffed part, level by level."""
 
 from __future__ import annotations
 
@@ -7,7 +7,7 @@ from dataclasses import dataclass
 from holding.gates import FALSE
 from peer.graph import Graph, Word, constant
 
-PLACES = 103  # levels up to the end of the longest frame's data, the start of frame among them
+PLACES = 103  # levels of the longest frame, from the start of frame to the end of its data
 IDE_PLACE = 13
 CHECK_LEVELS = 15
 GENERATOR = 0x4599
@@ -15,7 +15,7 @@ GENERATOR = 0x4599
 
 @dataclass
 class Frame:
-    """A frame's fields as words; byte k of its data stands at [8*k +: 8]."""
+    """A frame's fields as words; byte k of its data is at [8*k +: 8]."""
 
     extended: Word
     remote: Word
@@ -24,9 +24,9 @@ class Frame:
     data: Word
 
     def levels(self, graph: Graph) -> Word:
-        """The level at each place, up to the end of the longest data."""
+        """The level at each position, up to and including the end of the longest data field."""
         control = [*self.remote, FALSE, FALSE, *reversed(self.dlc)]
-        data = [self.data[place ^ 7] for place in range(64)]  # a byte's highest bit goes first
+        data = [self.data[place ^ 7] for place in range(64)]  # a byte is sent most significant bit first
         standard = [FALSE, *reversed(self.identifier[:11]), *control, *data]
         middle = [*reversed(self.identifier[18:]), 1, 1, *reversed(self.identifier[:18])]
         extended = [FALSE, *middle, *control, *data]
@@ -34,25 +34,25 @@ class Frame:
         return graph.select(self.extended[0], extended, standard)
 
     def chosen(self, graph: Graph, test: int, other: Frame) -> Frame:
-        """This frame where the test holds, else the other one."""
+        """The frame itself if the test is true, otherwise the other one."""
         pairs = zip(vars(self).values(), vars(other).values())
         return Frame(*(graph.select(test, a, b) for a, b in pairs))
 
 
 def byte_count(graph: Graph, frame: Frame) -> Word:
-    """How many bytes of data it has."""
+    """The number of its data bytes."""
     limited = graph.select(frame.dlc[3], constant(8, 4), frame.dlc)
     return graph.select(frame.remote[0], constant(0, 4), limited)
 
 
 def data_end(graph: Graph, frame: Frame) -> Word:
-    """The place behind its data."""
+    """The position after its data."""
     head = graph.select(frame.extended[0], constant(39, 7), constant(19, 7))
     return graph.sum(head, [FALSE] * 3 + byte_count(graph, frame))[0]
 
 
 def heard_frame(graph: Graph, levels: Word) -> Frame:
-    """The frame that these levels are."""
+    """The frame that has these levels."""
     extended = levels[IDE_PLACE]
 
     def field(standard: Word, long: Word) -> Word:
@@ -70,7 +70,7 @@ def heard_frame(graph: Graph, levels: Word) -> Frame:
 
 
 def masked(graph: Graph, frame: Frame) -> Frame:
-    """The frame with its data past their length as 0."""
+    """The frame with 0 for the data bytes past its length."""
     many = byte_count(graph, frame)
     there = [graph.is_under(many, byte + 1) ^ 1 for byte in range(8)]
     data = [graph.both(literal, there[place // 8]) for place, literal in enumerate(frame.data)]
@@ -79,7 +79,7 @@ def masked(graph: Graph, frame: Frame) -> Frame:
 
 @dataclass
 class Front:
-    """What is heard of a stuffed part."""
+    """What has been received of a stuffed part."""
 
     levels: Word
     count: Word
@@ -92,11 +92,11 @@ class Front:
         return [self.levels, self.count, [self.last], self.run, self.check]
 
     def is_stuff_due(self, graph: Graph) -> int:
-        """Whether five equal levels stand before the next one."""
+        """Whether the last five levels are equal, so that a stuff bit is next."""
         return graph.is_number(self.run, 5)
 
     def hearing(self, graph: Graph, level: int) -> Front:
-        """The front with one level more."""
+        """The front after one more level."""
         due = self.is_stuff_due(graph)
         differs = graph.differ(level, self.last)
         seen = graph.both(level, due ^ 1)
@@ -115,21 +115,21 @@ class Front:
         )
 
     def chosen(self, graph: Graph, begins: int, hears: int, heard: Front) -> Front:
-        """A first front where a frame begins, the heard one where a level is heard, else this one."""
+        """An initial front if a frame begins, the next one if a level is received, otherwise this one."""
         first = Front([FALSE] * PLACES, constant(1, 7), FALSE, constant(1, 4), [FALSE] * CHECK_LEVELS)
         rows = zip(self.words(), heard.words(), first.words())
         made = [graph.select(begins, z, graph.select(hears, y, x)) for x, y, z in rows]
         return Front(made[0], made[1], made[2][0], made[3], made[4])
 
     def is_whole(self, graph: Graph) -> int:
-        """Whether the stuffed part has ended: the check sequence is there, and no stuff bit is due."""
+        """Whether the stuffed part has ended: the CRC sequence is complete, and no stuff bit is due."""
         end = graph.sum(data_end(graph, heard_frame(graph, self.levels)), constant(CHECK_LEVELS, 7))[0]
         return graph.both(graph.is_equal(self.count, end), self.is_stuff_due(graph) ^ 1)
 
     def next_sent(self, graph: Graph, own: Word) -> int:
-        """The next level of the frame with these levels, where no stuff bit is due.
+        """The next level of the frame with these levels, if no stuff bit is due.
 
-        Behind the data it is the running check sequence's: a sender has heard its own levels.
+        After the data it is that of the CRC register: a transmitter has received its own levels.
         """
         in_head = graph.is_below(self.count, data_end(graph, heard_frame(graph, own)))
         return graph.choose(in_head, graph.item(own, self.count), self.check[0])

@@ -1,6 +1,6 @@
-"""A circuit with its ports and registers, and the combinators that it is written in.
+"""A circuit with its ports and registers, and the operations of which it is built.
 
-A word is a list of literals, the lowest place first.
+A word is a list of literals, the least significant first.
 """
 
 from __future__ import annotations
@@ -14,7 +14,7 @@ Word = list[int]
 
 @dataclass
 class Port:
-    """A named word, with what it means."""
+    """A named word and its meaning."""
 
     name: str
     word: Word
@@ -22,26 +22,26 @@ class Port:
 
 
 class Graph(Gates):
-    """A circuit that grows: its inputs and registers come before all gates."""
+    """A circuit that grows: inputs and registers come before all gates."""
 
     def __init__(self) -> None:
         super().__init__()
         self.inputs: list[Port] = []
         self.registers: list[Port] = []
         self.outputs: list[Port] = []
-        self.takes: dict[int, int] = {}  # what each register takes, by its literal
+        self.takes: dict[int, int] = {}  # the next value of each register, by its literal
 
     def word(self, width: int) -> Word:
         """New signals."""
         return [self.fresh() for _ in range(width)]
 
     def input(self, name: str, width: int, meaning: str) -> Word:
-        """An input of so many bits."""
+        """An input of this width."""
         self.inputs.append(Port(name, self.word(width), meaning))
         return self.inputs[-1].word
 
     def register(self, name: str, width: int, meaning: str) -> Word:
-        """A register of so many bits, each of which starts with 0."""
+        """A register of this width, which starts with 0."""
         self.registers.append(Port(name, self.word(width), meaning))
         return self.registers[-1].word
 
@@ -50,24 +50,24 @@ class Graph(Gates):
         self.outputs.append(Port(name, word, meaning))
 
     def take(self, register: Word, word: Word) -> None:
-        """What a register takes; places past the word's end take 0."""
+        """Sets the next value of a register; bits past the word's end take 0."""
         for place, literal in enumerate(register):
             self.takes[literal] = word[place] if place < len(word) else FALSE
 
     # literals
 
     def implies(self, a: int, b: int) -> int:
-        """Whether the second holds wherever the first does."""
+        """Implication."""
         return self.either(a ^ 1, b)
 
     def any(self, *literals: int) -> int:
-        """Or of many."""
+        """OR of many."""
         return self.all(*(literal ^ 1 for literal in literals)) ^ 1
 
     # words
 
     def select(self, test: int, a: Word, b: Word) -> Word:
-        """The first word where the test holds, else the second."""
+        """The first word if the test is true, otherwise the second."""
         return [self.choose(test, x, y) for x, y in zip(a, b)]
 
     def is_number(self, word: Word, number: int) -> int:
@@ -79,7 +79,7 @@ class Graph(Gates):
         return self.all(*(self.differ(x, y) ^ 1 for x, y in zip(a, b)))
 
     def is_below(self, a: Word, b: Word) -> int:
-        """Whether the first is less: from the lowest place up, the highest in which they differ decides."""
+        """Whether the first is less: the most significant bit in which they differ decides."""
         less = FALSE
         for x, y in zip(a, b):
             less = self.choose(self.differ(x, y), y, less)
@@ -90,7 +90,7 @@ class Graph(Gates):
         return self.is_below(word, constant(number, len(word)))
 
     def sum(self, a: Word, b: Word, carry: int = FALSE) -> tuple[Word, int]:
-        """The sum of two words, and what is carried over."""
+        """The sum of two words, and the carry."""
         made = []
         for x, y in zip(a, b):
             half = self.differ(x, y)
@@ -99,15 +99,15 @@ class Graph(Gates):
         return made, carry
 
     def more(self, word: Word) -> Word:
-        """One more."""
+        """The word plus 1."""
         return self.sum(word, constant(0, len(word)), TRUE)[0]
 
     def less(self, word: Word) -> Word:
-        """One less."""
+        """The word minus 1."""
         return self.sum(word, constant(-1, len(word)))[0]
 
     def item(self, items: Word, place: Word) -> int:
-        """The literal at a place; past the end false."""
+        """The literal at an index; past the end it is false."""
         if not place:
             return items[0] if items else FALSE
         return self.choose(place[0], self.item(items[1::2], place[1:]), self.item(items[0::2], place[1:]))

@@ -1,4 +1,4 @@
-"""A circuit as Verilog, in three forms of line: a gate or a name, an output, and what a register takes."""
+"""A circuit as Verilog, in three forms of line: a gate or a name, an output, and the next value of a register."""
 
 from __future__ import annotations
 
@@ -13,18 +13,18 @@ def bits(port: Port) -> list[str]:
 
 
 def declared(kind: str, port: Port) -> str:
-    """A word as it is declared, with its meaning."""
+    """The declaration of a word, with its meaning."""
     width = "" if len(port.word) == 1 else f" [{len(port.word) - 1}:0]"
     return f"{kind}{width} {port.name}; // {port.meaning}"
 
 
 def value(literal: int) -> str:
-    """A literal by the number of its signal."""
+    """A literal with the number of its signal."""
     return f"{'~' if literal & 1 else ''}n{literal >> 1}"
 
 
 def statements(graph: Graph) -> Iterator[str]:
-    """The lines of a module behind its declarations."""
+    """The lines of a module after its declarations."""
     yield "wire n0 = 1'b0;"
     for port in [*graph.inputs, *graph.registers]:
         for name, literal in zip(bits(port), port.word):
@@ -43,7 +43,7 @@ def statements(graph: Graph) -> Iterator[str]:
 
 
 def written(graph: Graph, module: str, meaning: str) -> str:
-    """A circuit as a module of Verilog, with what it is as its first line."""
+    """A circuit as a Verilog module; its first line is a comment with this meaning."""
     names = ["clock", *(port.name for port in [*graph.inputs, *graph.outputs])]
     lines = [f"// {meaning}", f"module {module}({', '.join(names)});"]
     lines += ["input clock; // with each rising edge the registers take their next values"]

@@ -1,4 +1,4 @@
-"""Tests of `hold`: what is told of relations that say too little or too much, and what is refused."""
+"""Tests of `hold`: what it prints for register mappings that are too weak or too strong, and what it refuses."""
 
 from __future__ import annotations
 
@@ -36,7 +36,7 @@ endmodule
 """
 SAME = {"same_drive": "gates.drive == dut.drive"}
 STATE = {"holds_state": "dut.state == 4'd5"}
-# a receiver that hears recessive levels alone
+# a receiver on a bus that is always recessive
 JOINS = {"given_silence": "bus", "holds_phase": "gates.phase <= 4'd1 && !gates.sender"}
 
 
@@ -66,21 +66,22 @@ class Files(unittest.TestCase):
         text = RELATION.format(outputs=", ".join(f"output {name}" for name in parts), parts=lines)
         return self.run_hold(*words, self.put("relation.v", text), self.put("small.v", DESIGN))
 
-    def is_told(self, ran: subprocess.CompletedProcess[str], status: int, text: str) -> None:
+    def prints(self, ran: subprocess.CompletedProcess[str], status: int, text: str) -> None:
         self.assertEqual(ran.returncode, status, ran)
         self.assertIn(text, ran.stdout + ran.stderr)
         self.assertEqual(ran.stdout.rstrip().endswith("equal in every run"), status == 0, ran)
 
 
-@unittest.skipUnless(has_tools(), "yosys or cadical is not there")
+@unittest.skipUnless(has_tools(), "yosys or cadical is not installed")
 class Relations(Files):
     def test_what_is_equal(self) -> None:
         for solver in (name for name, command in SOLVERS.items() if shutil.which(command)):
             ran = self.hold({**SAME, **STATE, **JOINS}, "--solver", solver)
-            self.is_told(ran, 0, "not compared: told frame_extended")
+            self.prints(ran, 0, "not compared: told frame_extended")
             self.assertIn("assumed: given_silence\n", ran.stdout)
+            self.assertRegex(ran.stdout, r"(?m)^self-check: injected mutation detected, \d+\.\d s \(holds_state\)$")
 
-    def test_a_relation_by_ports(self) -> None:
+    def test_a_mapping_through_ports(self) -> None:
         text = RELATION.replace(".bus(bus),", ".bus(bus), .drive(drive),").replace("dut(", "dut(.drive(other), ")
         parts = "wire drive, other; assign same_drive = drive == other; assign holds_state = !dut.state[1];"
         text = text.replace("wait_data(64'd0));", "wait_data(64'd0)); wire [3:0] state;")
@@ -88,35 +89,35 @@ class Relations(Files):
         parts += " assign holds_more = state == 4'd5; assign holds_phase = gates.phase <= 4'd1 && !gates.sender;"
         outputs = "output same_drive, output holds_state, output holds_more, output holds_phase, output given_bus"
         relation = self.put("relation.v", text.format(outputs=outputs, parts=f"{parts} assign given_bus = bus;"))
-        self.is_told(self.run_hold(relation, self.put("small.v", DESIGN)), 0, "assumed: given_bus\n")
+        self.prints(self.run_hold(relation, self.put("small.v", DESIGN)), 0, "assumed: given_bus\n")
 
-    def test_a_word_that_is_gone(self) -> None:
+    def test_a_word_that_does_not_exist(self) -> None:
         ran = self.hold({**SAME, "holds_x": "dut.gone == gates.missing"})
-        self.is_told(ran, 1, "it names what is not there: dut.gone gates.missing")
+        self.prints(ran, 1, "no such register, output or signal: dut.gone gates.missing")
 
-    def test_a_relation_that_no_state_meets(self) -> None:
-        self.is_told(self.hold({**SAME, **STATE, "holds_x": "gates.phase == 4'd15"}), 5, "no state of the circuit")
-        self.is_told(self.hold({**SAME, **STATE, "holds_x": "dut.state == 4'd6"}), 5, "no state of the circuit")
-        self.is_told(self.hold({**SAME, **STATE, "given_x": "1'b0"}), 5, "no state of the circuit")
+    def test_a_mapping_that_no_state_satisfies(self) -> None:
+        self.prints(self.hold({**SAME, **STATE, "holds_x": "gates.phase == 4'd15"}), 5, "no legal state of the circuit")
+        self.prints(self.hold({**SAME, **STATE, "holds_x": "dut.state == 4'd6"}), 5, "no legal state of the circuit")
+        self.prints(self.hold({**SAME, **STATE, "given_x": "1'b0"}), 5, "no legal state of the circuit")
 
-    def test_a_relation_that_a_reset_does_not_meet(self) -> None:
+    def test_a_mapping_that_a_reset_does_not_satisfy(self) -> None:
         ran = self.hold({**SAME, **STATE, **JOINS, "holds_tec": "gates.tec_count == 9'd1"})
-        self.is_told(ran, 1, "the states behind a reset don't meet the relation")
+        self.prints(ran, 1, "not proved: a state after a reset doesn't satisfy the register mapping")
         self.assertIn("holds_tec fails: gates.tec_count", ran.stdout)
 
-    def test_a_relation_that_says_too_little(self) -> None:
-        self.is_told(self.hold({**SAME, "holds_phase": "gates.phase <= 4'd1"}), 5, "planted in the design isn't found")
-        self.is_told(self.hold(STATE), 5, "it has no output same_")
-        self.is_told(self.hold({"same_state": "dut.state == 4'd5", **STATE}), 5, "doesn't compare gates.drive")
-        self.is_told(self.hold({**SAME, **STATE, "same_x": "1'b1"}), 5, "same_x says nothing")
+    def test_a_mapping_that_is_too_weak(self) -> None:
+        self.prints(self.hold({**SAME, "holds_phase": "gates.phase <= 4'd1"}), 5, "into the design and not detected")
+        self.prints(self.hold(STATE), 5, "it has no output same_")
+        self.prints(self.hold({"same_state": "dut.state == 4'd5", **STATE}), 5, "must compare gates.drive")
+        self.prints(self.hold({**SAME, **STATE, "same_x": "1'b1"}), 5, "same_x has no effect")
 
-    def test_what_is_no_part(self) -> None:
+    def test_an_output_that_is_no_part(self) -> None:
         ran = self.hold({**SAME, "phase": "gates.phase == 4'd0"})
-        self.is_told(ran, 1, "the output phase of the relation is no part")
+        self.prints(ran, 1, "output phase of the register mapping must be one bit wide")
 
     def test_a_difference(self) -> None:
         ran = self.hold({**SAME, **STATE, "holds_phase": "!gates.sender"}, "--vcd", str(self.room / "waves.vcd"))
-        self.is_told(ran, 1, "outputs: differs")
+        self.prints(ran, 1, "outputs: counterexample")
         self.assertRegex(ran.stdout, r"(?m)^  before: (active-flag|overload-flag|ack-slot) ?\d?, receiver; [A-Z][a-z]")
         self.assertIn("same_drive fails: dut.drive 1, gates.drive 0", ran.stdout)
         waves = (self.room / "waves.vcd").read_text()
@@ -124,56 +125,56 @@ class Relations(Files):
         self.assertEqual(re.findall(r"(?m)^#(\d+)", waves), ["0", "5", "10", "15", "20"])
 
     def test_the_first_bit_times(self) -> None:
-        self.is_told(self.hold({**SAME, **STATE}, "--smoke", "1"), 5, "isn't found in 1 bit times")
+        self.prints(self.hold({**SAME, **STATE}, "--smoke", "1"), 5, "not detected in 1 bit times")
         same = {"same_both": "gates.drive == (dut.drive ^ (dut.state != 4'd5))"}
         ran = self.hold(same, "--smoke", "3")
         self.assertEqual((ran.returncode, ran.stdout.splitlines()[-1]), (0, "no difference in the first 3 bit times"))
         late = {"same_both": "gates.drive == (dut.drive ^ (dut.state != 4'd5)) && gates.place < 4'd2"}
         ran = self.hold(late, "--smoke", "5")
         self.assertEqual(ran.returncode, 1, ran)
-        self.assertIn("bit time 2: the same", ran.stdout)
-        self.assertIn("bit time 3: differs", ran.stdout)
-        self.assertIn("  levels from reset: 11", ran.stdout)
+        self.assertIn("bit time 2: no difference", ran.stdout)
+        self.assertIn("bit time 3: counterexample", ran.stdout)
+        self.assertIn("  bus levels from reset: 11", ran.stdout)
 
     def test_a_design_that_yosys_does_not_read(self) -> None:
         relation = self.put("relation.v", RELATION.format(outputs="output same_drive", parts=""))
-        self.is_told(self.run_hold(relation, self.put("small.v", "module small(")), 1, "hold: yosys: ")
+        self.prints(self.run_hold(relation, self.put("small.v", "module small(")), 1, "hold: yosys: ")
 
-    @unittest.skipUnless(shutil.which("ghdl"), "ghdl is not there")
+    @unittest.skipUnless(shutil.which("ghdl"), "ghdl is not installed")
     def test_a_design_that_ghdl_does_not_read(self) -> None:
         text = "entity small is end entity; architecture wrong of small is begin assert gone; end architecture;"
         relation = self.put("relation.v", RELATION.format(outputs="output same_drive", parts=""))
-        self.is_told(self.run_hold(relation, self.put("small.vhd", text)), 1, 'no declaration for "gone"')
+        self.prints(self.run_hold(relation, self.put("small.vhd", text)), 1, 'no declaration for "gone"')
 
     def test_a_register_of_another_clock(self) -> None:
-        for edge, said in (("negedge clock", "$_DFF_N_"), ("posedge reset", "another clock")):
+        for edge, said in (("negedge clock", "$_DFF_N_"), ("posedge reset", "a clock other than")):
             design = self.put("small.v", DESIGN.replace("posedge clock", edge))
             outputs = "output same_drive, output holds_state"
             parts = f"assign same_drive = {SAME['same_drive']}; assign holds_state = {STATE['holds_state']};"
             relation = self.put("relation.v", RELATION.format(outputs=outputs, parts=parts))
-            self.is_told(self.run_hold(relation, design), 1, said)
+            self.prints(self.run_hold(relation, design), 1, said)
 
 
 class Uses(Files):
-    def test_a_tool_that_is_not_there(self) -> None:
+    def test_a_tool_that_is_not_installed(self) -> None:
         outputs, design = "output same_drive", self.put("small.v", DESIGN)
         relation = self.put("relation.v", RELATION.format(outputs=outputs, parts=""))
         ran = self.run_hold(relation, design, path=str(self.room))
-        self.is_told(ran, 3, "neither cadical nor berkeley-abc is there: apt-get install cadical")
+        self.prints(ran, 3, "neither cadical nor berkeley-abc is installed: apt-get install cadical")
         ran = self.run_hold("--solver", "abc", relation, design, path=str(self.room))
-        self.is_told(ran, 3, "berkeley-abc is not there: apt-get install berkeley-abc")
+        self.prints(ran, 3, "berkeley-abc is not installed: apt-get install berkeley-abc")
         (self.room / "cadical").symlink_to("/bin/true")
         ran = self.run_hold(relation, design, path=str(self.room))
-        self.is_told(ran, 3, "yosys is not there: apt-get install yosys")
+        self.prints(ran, 3, "yosys is not installed: apt-get install yosys")
 
-    def test_a_file_that_is_not_there(self) -> None:
-        self.is_told(self.run_hold(str(self.room / "none.v"), str(self.room / "none.v")), 3, "none.v")
+    def test_a_file_that_does_not_exist(self) -> None:
+        self.prints(self.run_hold(str(self.room / "none.v"), str(self.room / "none.v")), 3, "none.v")
 
-    def test_a_wrong_use(self) -> None:
+    def test_wrong_usage(self) -> None:
         self.assertEqual(self.run_hold().returncode, 2)
         self.assertEqual(self.run_hold("--smoke", "0", "relation.v", "small.v").returncode, 2)
 
-    def test_a_text_that_is_no_relation(self) -> None:
+    def test_a_text_that_is_no_mapping(self) -> None:
         for text in ("", "module relation(input clock); endmodule", RELATION + RELATION):
             with self.assertRaises(Fault):
                 read_relation(text, "relation.v")
@@ -207,7 +208,7 @@ class Texts(unittest.TestCase):
 
 
 class Solvers(unittest.TestCase):
-    def test_answers(self) -> None:
+    def test_results(self) -> None:
         gates = Gates()
         a, b, c = (gates.fresh() for _ in range(3))
         parity = gates.differ(gates.differ(a, b), c)
@@ -221,14 +222,14 @@ class Solvers(unittest.TestCase):
                 self.assertTrue(is_true(gates.values(model), c))
                 self.assertIsNone(solver.ask(gates, gates.all(parity, a, b, c ^ 1)))
 
-    @unittest.skipUnless(shutil.which("cadical"), "cadical is not there")
-    def test_literals_that_are_true_besides(self) -> None:
+    @unittest.skipUnless(shutil.which("cadical"), "cadical is not installed")
+    def test_literals_that_are_assumed(self) -> None:
         gates = Gates()
         a, b, other = (gates.fresh() for _ in range(3))
         clauses = clauses_of(gates, gates.either(a, b))
         solver = Solver("cadical", pathlib.Path(), None)
-        self.assertIn(clauses.number(b), solver.answer(clauses, [a ^ 1, other]) or set())
-        self.assertIsNone(solver.answer(clauses, [a ^ 1, b ^ 1]))
+        self.assertIn(clauses.number(b), solver.model(clauses, [a ^ 1, other]) or set())
+        self.assertIsNone(solver.model(clauses, [a ^ 1, b ^ 1]))
 
 
 if __name__ == "__main__":

@@ -95,7 +95,7 @@ def _is_shared(name: str) -> bool:
 
 def _documents(folder: pathlib.Path, shared: set[str]) -> None:
     """The documents and their pictures, with links to what the release has."""
-    documents = [it for it in tracked(*DOCUMENTS) if it.endswith((".md", ".png"))]
+    documents = [it for it in tracked(*DOCUMENTS) if it.endswith((".md", ".png", ".svg"))]
     for name in documents:
         if name.endswith(".md"):
             put(folder / name, links.settled((TOP / name).read_text("utf-8"), name, set(documents), shared))

@@ -1,0 +1,84 @@
+"""The sessions of README.md are those of `hold`, without times and without what the solver chooses."""
+
+from __future__ import annotations
+
+import pathlib
+import re
+import shutil
+import subprocess
+import sys
+import unittest
+
+FOLDER = pathlib.Path(__file__).resolve().parent.parent
+TOP = FOLDER.parent
+PAGE = FOLDER / "README.md"
+sys.path.insert(0, str(FOLDER))
+
+from holding.tools import SOLVERS
+
+FAILS = re.compile(r"  \w+ fails: ")
+NUMBER = r" (?:\d+|0x[0-9a-f]+)"
+# times, the circuit, the self-check's mutation, counters, roles, a pending frame or request, and values of registers
+CHOSEN = [
+    (r"\d+\.\d s", "TIME"),
+    (r"^circuit: .*", "circuit:"),
+    (r" \(holds_\w+\)$", ""),
+    (r"tec \d+ rec \d+$", "tec rec"),
+    (r"(sender|receiver);", "ROLE;"),
+    (r"^(  inputs: bus [01] \(\w+\)).*", r"\1"),
+]
+
+
+def has_tools() -> bool:
+    return shutil.which("yosys") is not None and any(map(shutil.which, SOLVERS.values()))
+
+
+def sessions() -> dict[str, list[str]]:
+    """The commands of the page's indented blocks that begin with `$ `, with the lines below each."""
+    blocks = re.findall(r"(?m)^ {4}\$ (.*)\n((?: {4}[^$\n].*\n)+)", PAGE.read_text())
+    return {command: re.sub(r"(?m)^ {4}", "", lines).splitlines() for command, lines in blocks}
+
+
+def without_choices(line: str) -> str:
+    for pattern, instead in CHOSEN:
+        line = re.sub(pattern, instead, line)
+    return re.sub(rf"{NUMBER}(?: then{NUMBER})?(?=,|$)", "", line) if FAILS.match(line) else line
+
+
+def are_shown(shown: list[str], printed: list[str]) -> bool:
+    """Whether these lines are printed, in this order, and no others but further parts that fail."""
+    due = iter(map(without_choices, shown))
+    wanted = next(due, None)
+    for line in map(without_choices, printed):
+        if line == wanted:
+            wanted = next(due, None)
+        elif not FAILS.match(line):
+            return False
+    return wanted is None
+
+
+class Page(unittest.TestCase):
+    def test_what_is_compared(self) -> None:
+        shown = ["circuit: a", "step: counterexample, 3.0 s", "  before: idle, sender; Rule; tec 1 rec 2"]
+        shown += ["  holds_a fails: dut.a 8 then 0, a 0x8 then 9", "not proved"]
+        self.assertTrue(are_shown(shown, shown))
+        other = ["circuit: b", "step: counterexample, 12.5 s", "  before: idle, receiver; Rule; tec 7 rec 8"]
+        other += ["  holds_a fails: dut.a 1, a 3", "  holds_b fails: b 1", "not proved"]
+        self.assertTrue(are_shown(shown, other))
+        self.assertFalse(are_shown(other, shown))
+        for place in range(len(shown)):
+            self.assertFalse(are_shown(shown, [*shown[:place], *shown[place + 1 :]]))
+            self.assertFalse(are_shown(shown, [*shown[:place], "other", *shown[place:]]))
+
+    @unittest.skipUnless(has_tools(), "yosys or a solver is not installed")
+    def test_sessions(self) -> None:
+        self.assertEqual(len(sessions()), 2)
+        for command, shown in sessions().items():
+            with self.subTest(command):
+                ran = subprocess.run(["bash", "-c", command], cwd=TOP, capture_output=True, text=True, timeout=300)
+                printed = ran.stdout.splitlines()
+                self.assertTrue(are_shown(shown, printed), "\n".join([*printed, ran.stderr]))
+
+
+if __name__ == "__main__":
+    unittest.main()
