@@ -1,4 +1,4 @@
-// What is wrong in a scenario is told where it is.
+// What is wrong in a scenario is shown with its place.
 import assert from 'node:assert/strict';
 import { fault, fill, shown } from './bus_page.mjs';
 
@@ -34,7 +34,7 @@ const WRONG = [
 const NO_TOML = [
   ['version = 1\nbits = 8 8\n[[port]]', [2, 10], /end of the line was expected/],
   ['version = 1\nbits = 08\n[[port]]', [2, 8], /value was expected/],
-  ['version = 1\nversion = 1\n[[port]]', [2, 1], /“version” stands here once more/],
+  ['version = 1\nversion = 1\n[[port]]', [2, 1], /“version” is used again here/],
   ['version = 1\nbits = 1\n[[port]]\nqueue = ["S 000 D 0]', [4, 10], /string does not end on its line/],
   ['version = 1\nbits = 1\n[[port]\n', [3, 7], /“]]” was expected/],
   ['version = 1\nbits = 1\n[[port]]\nqueue = ["S 000 D 0" "S 001 D 0"]', [4, 22], /“,” or “]” was expected/],

@@ -180,8 +180,8 @@ export const busViewTests = [
     await page.run(() => { for (const port of document.querySelectorAll('.port-end')) port.open = true; });
     await page.until("document.querySelectorAll('#bus-ends li').length === 53");
     const words = () => page.run(() => [...document.querySelectorAll('.port-end')].map((port) => port.textContent));
-    assert.match((await words())[0], /Shown are 50 of 600 entries; all stand in the report, which can be downloaded below/);
-    assert.match((await words())[1], /3 entries in its log, 597 more missed.*The log had no room for 597 more\./);
+    assert.match((await words())[0], /Shown are 50 of 600 entries; all are in the report, which can be downloaded below/);
+    assert.match((await words())[1], /3 entries in its log, 597 more missed.*The log had no space for 597 more\./);
     await page.run(() => document.querySelector('[data-more]').click());
     await page.run(() => document.querySelector('[data-more]').click());
     assert.equal(await page.get("document.querySelectorAll('.port-end li').length"), 603);

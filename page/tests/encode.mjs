@@ -139,7 +139,7 @@ export const encodeTests = [
     assert.match(await words(), /^Level 0: 0, dominant; Start of frame\. One dominant level/);
     await page.run(() => document.querySelector('#encode-wire .level').focus());
     for (let step = 0; step < 5; step += 1) await page.key('ArrowRight');
-    assert.match(await words(), /^Level 5: 1, recessive; stuff bit in: Identifier\. Stuff bit: behind five equal levels/);
+    assert.match(await words(), /^Level 5: 1, recessive; stuff bit in: Identifier\. Stuff bit: after five equal levels/);
     assert.equal(await page.get("document.activeElement.getAttribute('aria-label')"), 'Level 5: 1, recessive; stuff bit in: Identifier');
     await page.key('End');
     assert.match(await words(), /^Level 49: 1, recessive; End of frame\./);

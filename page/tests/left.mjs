@@ -1,4 +1,4 @@
-// What is left of a network until a message is late: read from an answer with details, and drawn.
+// The margins of a network until a message is late: read from an output with details, and drawn.
 import assert from 'node:assert/strict';
 import { marginsOf } from '../src/left.js';
 import { fillNetwork, networkShown } from './network_page.mjs';
@@ -22,10 +22,10 @@ export const leftTests = [
   ['what is left is shown above the bounds, as it was worked out by hand', async ({ open }) => {
     const page = await networkShown(open, network(PERIODS));
     await page.until("document.querySelectorAll('#network-left li').length === 2");
-    // periods of 418 for 427 let the second frame of the third message end 431 behind its release; 361 and 135 of a hit are 496
+    // periods of 418 for 427 let the second frame of the third message end 431 after its release; 361 and 135 of a hit are 496
     assert.deepEqual(await shown(page), [
       ['All periods may be 1 % shorter. With 2 % S 300 D 7 Brake is late.', '47.5%', '48%'],
-      ['No hit more may come at once. With 1 hit S 200 D 7 is late.', '48%', '48%'],
+      ['No more hits may come at once. With 1 hit S 200 D 7 is late.', '48%', '48%'],
     ]);
     // of rare messages the bounds are 240, 361 and 362, and each hit makes them 135 longer: two leave 632 of the third, three make 645 of the first
     await fillNetwork(page, 'network-text', network([100000, 100000, 100000], '[errors]\nburst = 1\n').replaceAll('deadline = 427', 'deadline = 632'));

@@ -1,4 +1,4 @@
-// What is wrong in a network is told where it is.
+// What is wrong in a network is shown with its place.
 import assert from 'node:assert/strict';
 import { fillNetwork, many, networkFault, networkShown } from './network_page.mjs';
 

@@ -14,11 +14,11 @@ const LONE = 'version = 1\n[[message]]\nframe = "S 000 D"\ndlc = 0\nperiod = 100
 /** A network, a message of it, and what is told of its worst case. */
 const TOLD = [
   // its second frame is released at 428, starts at 731 and ends before 850
-  [THREE, 'S 300 D 7', 'its latest frame, of port 2, is offered before bit time 428 and ends with bit time 849, 422 bit times behind its offer, which is its bound.'],
-  [LONE, 'S 000 D 0', 'its latest frame, of port 0, is offered before bit time 1 and ends with bit time 50, 50 bit times behind its offer, which is its bound.'],
-  [`${LONE}jitter = 5\n`, 'S 000 D 0', 'its latest frame, of port 0, is offered before bit time 1 and ends with bit time 50, 50 bit times behind its offer. Its bound, 55, counts its jitter too.'],
+  [THREE, 'S 300 D 7', 'its latest frame, of port 2, is offered before bit time 428 and ends with bit time 849, 422 bit times after its offer, which is its bound.'],
+  [LONE, 'S 000 D 0', 'its latest frame, of port 0, is offered before bit time 1 and ends with bit time 50, 50 bit times after its offer, which is its bound.'],
+  [`${LONE}jitter = 5\n`, 'S 000 D 0', 'its latest frame, of port 0, is offered before bit time 1 and ends with bit time 50, 50 bit times after its offer. Its bound, 55, also counts its jitter.'],
   // a hit costs 13 bit times more than the frame keeps the bus
-  [`${LONE}[errors]\nburst = 1\n`, 'S 000 D 0', 'its latest frame, of port 0, is offered before bit time 1 and ends with bit time 50, 50 bit times behind its offer. Its bound, 116, counts its jitter and hits too.'],
+  [`${LONE}[errors]\nburst = 1\n`, 'S 000 D 0', 'its latest frame, of port 0, is offered before bit time 1 and ends with bit time 50, 50 bit times after its offer. Its bound, 116, also counts its jitter and hits.'],
 ];
 
 /** What is told of the worst case that is shown. */
@@ -49,7 +49,7 @@ export const worstCaseTests = [
       await fillNetwork(page, 'network-text', network);
       assert.equal(await askWorst(page, frame), '', frame);
       assert.deepEqual(await seen(page), ['panel-bus']);
-      assert.equal(await told(page), `The worst case of ${frame}, where nothing is hit: ${words}`);
+      assert.equal(await told(page), `The worst case of ${frame} without hits: ${words}`);
       assert.equal(await time(page), Number(/bit time (\d+), /.exec(words)[1]));
       assert.equal(await page.get('document.activeElement.id'), 'bus-picture');
     }
@@ -70,7 +70,7 @@ export const worstCaseTests = [
     const page = await networkShown(open, many(70));
     await page.click('network-bounds-on');
     assert.equal(await askWorst(page, 'E 00000046 D 8'), '');
-    assert.match(await told(page), /: its latest frame, of port 63, is offered before bit time 1 and ends with bit time [\d,]+, [\d,]+ bit times behind its offer, which is its bound\.$/);
+    assert.match(await told(page), /: its latest frame, of port 63, is offered before bit time 1 and ends with bit time [\d,]+, [\d,]+ bit times after its offer, which is its bound\.$/);
   }],
   ['where no scenario is long enough for a worst case the page says so', async ({ open }) => {
     const page = await networkShown(open, 'version = 1\n[[message]]\nframe = "S 000 D"\nperiod = 100\n[[message]]\nframe = "S 001 D"\nperiod = 5000000\n');
