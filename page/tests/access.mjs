@@ -41,7 +41,7 @@ const complaints = () => {
   return found;
 };
 
-/** Texts whose contrast with what is behind them is too low. */
+/** Texts whose contrast with their background is too low. */
 const pale = () => {
   const canvas = document.createElement('canvas');
   canvas.width = 1;

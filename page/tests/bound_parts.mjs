@@ -3,7 +3,7 @@ import assert from 'node:assert/strict';
 import { linesBelow, makingsOf } from '../src/bound_parts.js';
 import { networkShown } from './network_page.mjs';
 
-/** The network of docs/PLANNING.md at 125 kbit/s, whose second message has a name; and the answer with details. */
+/** The network of docs/PLANNING.md at 125 kbit/s, whose second message has a name; and the output with details. */
 const NETWORK = `version = 1\nrate = 125000\n${[['100', 2430, ''], ['200', 3420, 'name = "Brake"\n'], ['300', 3420, '']].map(([identifier, period, name]) => `[[message]]\nframe = "S ${identifier} D"\n${name}dlc = 7\nperiod = ${period}\n`).join('')}`;
 const ANSWER = `network messages 3 load 0.971 rate 125000
 S 100 D 7 longest 122 blocking 121 bound 240 deadline 303 slack 63 ok

@@ -1,4 +1,4 @@
-// The view Network: the examples against canplan, bars worked out by hand, the table, files, and many messages.
+// The view Network: the examples against canplan, bars computed by hand, the table, files, and many messages.
 import assert from 'node:assert/strict';
 import { readFileSync, readdirSync, writeFileSync } from 'node:fs';
 import { join } from 'node:path';
@@ -28,7 +28,7 @@ deadline = 240
 `;
 
 export const networkTests = [
-  ['every example of a network has the answer of canplan', async ({ open, examples }) => {
+  ['every example of a network has the output of canplan', async ({ open, examples }) => {
     const folder = join(examples, 'networks');
     const page = await networkShown(open);
     assert.deepEqual(await page.get("[...document.querySelectorAll('#network-examples option')].slice(1).map((option) => option.value)"), names(folder));
@@ -55,7 +55,7 @@ export const networkTests = [
       assert.equal(await saved(page, 'network-download'), readFileSync(join(folder, `${name}.answer`), 'utf8'), name);
     }
   }],
-  ['bounds and deadlines are shown as they were worked out by hand', async ({ open }) => {
+  ['bounds and deadlines are shown as computed by hand', async ({ open }) => {
     const page = await networkShown(open, EDGES);
     assert.deepEqual(await bounds(page), [
       ['S 100 D 7', '122', '121', '240', '240', 'ok, slack 0'], ['S 200 D 7', '121', '121', '361', '360', '▲ late'], ['S 300 D 7', '122', '0', '422', '200', '▲ late'],
@@ -75,7 +75,7 @@ export const networkTests = [
     assert.equal(await networkText(page), 'version = 1\n\n[[message]]\nname = " Engine speed"\nframe = "S 000 D"\nperiod = 500\n\n[[message]]\nname = "Brake"\nframe = "S 001 D"\nperiod = 500\n');
     assert.deepEqual(await names(), [' Engine speed', 'Brake']);
   }],
-  ['a message with no bound is late, and told so', async ({ open }) => {
+  ['a message with no bound is shown as late', async ({ open }) => {
     const page = await networkShown(open, 'version = 1\n[[message]]\nframe = "S 000 D"\nperiod = 100\n[[message]]\nframe = "S 001 D"\nperiod = 5000000\n');
     assert.deepEqual((await bounds(page)).map(([, , , bound, , outcome]) => [bound, outcome]), [['none', '▲ late'], ['none', '▲ late']]);
     assert.equal(await page.get("document.querySelectorAll('#network-bounds .cut').length"), 2);
