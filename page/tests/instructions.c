@@ -1,6 +1,6 @@
 /*
- * Runs each form of an instruction (instructions) on the same generated registers and memory, and writes the results: as
- * a program of AArch64, and as a module of WebAssembly, for which page/translate wrote the forms.
+ * Runs each form of an instruction (instructions) on the same generated registers and memory, and writes the results:
+ * as a program of AArch64, and as a module of WebAssembly, for which page/translate wrote the forms.
  */
 #include "forms.h" /* FORM_COUNT and forms, each a function of what it reads and what it writes */
 
@@ -77,7 +77,7 @@ static double made_fraction(void)
   return (double)(1 + (chance() >> 4 >> chance() % 59)) * sign;
 }
 
-/* The inputs of a form: integers, in some rounds equal ones; floating-point numbers from byte 128 on, NaN from 256 on. */
+/* The inputs of a form: integers, in some rounds equal ones; floating-point numbers from byte 128, NaN from 256. */
 static void make(int round)
 {
   for (int place = 0; place < BYTES / 8; place++) {
