@@ -1,6 +1,6 @@
 #!/usr/bin/env bash
-# What the checks of bindings/ have in common: bindings/check and the `check` in each folder source it. A check passes
-# with status 0; what can't be tried is told as 'skipped: ..'; `finish` writes the last line, 'N passed, M failed'.
+# Common to the checks of bindings/: bindings/check and the `check` in each folder source it. A check passes with status
+# 0; one that cannot run is reported as 'skipped: ..'; `finish` writes the last line, 'N passed, M failed'.
 
 top=$(dirname "$(dirname "$(readlink -f "${BASH_SOURCE[0]}")")")
 bindings=$top/bindings
@@ -11,7 +11,7 @@ warnings=(-Wall -Wextra -Wpedantic -Werror)
 passed=0
 failed=0
 
-# check NAME COMMAND..: what the command printed is shown where it fails. How long it took is told from two seconds on.
+# check NAME COMMAND..: if the command fails, its output is shown. From two seconds on its time is printed.
 check() {
     local name=$1 begun=$SECONDS
     shift
@@ -26,7 +26,7 @@ check() {
     fi
 }
 
-# part NAME SCRIPT [WORD..]: a check of a folder, whose lines are shown, and count here.
+# part NAME SCRIPT [WORD..]: runs the check of a folder, shows its lines, and adds its counts.
 part() {
     local name=$1 count
     shift
@@ -42,22 +42,22 @@ part() {
     fi
 }
 
-# has COMMAND..: whether these commands are there.
+# has COMMAND..: whether these commands are installed.
 has() {
     local command
     for command in "$@"; do
-        command -v "$command" > /dev/null || { echo "skipped: $command is not there"; return 1; }
+        command -v "$command" > /dev/null || { echo "skipped: $command is not installed"; return 1; }
     done
 }
 
-# same FILE COMMAND..: whether the command writes what stands in the file.
+# same FILE COMMAND..: whether the command's output is the content of the file.
 same() {
     local wanted=$1
     shift
     "$@" > "$work/given" && cmp "$wanted" "$work/given"
 }
 
-# refused TEXT COMMAND..: whether the command fails, and says this, a pattern of grep.
+# refused TEXT COMMAND..: whether the command fails, with an output that matches this pattern of grep.
 refused() {
     local wanted=$1
     shift
@@ -65,9 +65,9 @@ refused() {
     grep -e "$wanted" "$work/given" || { cat "$work/given"; return 1; }
 }
 
-# needs_library: a folder's check ends where the library was not built.
+# needs_library: ends a folder's check if the library has not been built.
 needs_library() {
-    [ -e "$bindings/out/libriddlesage.a" ] || { echo 'failed: bindings/build makes the library first'; exit 1; }
+    [ -e "$bindings/out/libriddlesage.a" ] || { echo 'failed: run bindings/build first'; exit 1; }
 }
 
 finish() {

@@ -1,12 +1,12 @@
 /*
- * What the proved archives ask of their program for memory, over malloc, realloc and free. It is trusted: a block that is
- * given is at least so large, and aligned as its size allows up to 16, which malloc's blocks are.
+ * The memory functions that the proved archives need, over malloc, realloc and free. They are trusted: a block has at
+ * least the requested size, and is aligned as its size allows, to at most 16, as malloc's blocks are.
  */
 #include <stdbool.h>
 #include <stddef.h>
 #include <stdlib.h>
 
-/* Whether there was memory, and where it is; behind `false` the place has no meaning. */
+/* Whether there was memory, and its address, which has no meaning if not. */
 struct tried {
   bool given;
   void *at;

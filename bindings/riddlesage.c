@@ -1,6 +1,6 @@
 /*
- * The public calls over the proved ones of crates/can_c: each tests its pointers, and hands on. The room of a port that
- * the library keeps is taken and given back here. Nothing here is proved, and nothing here knows a rule of CAN.
+ * The public calls over the proved functions of crates/can_c: each checks its pointers, and passes its arguments on. The
+ * memory of riddlesage_port_new() is allocated and freed here. Nothing here is proved, and no rule of CAN is here.
  */
 #include "riddlesage.h"
 
@@ -36,7 +36,7 @@ uint8_t can_c_decode(const uint8_t *levels, size_t levels_length, riddlesage_hea
 
 static const riddlesage_port none = RIDDLESAGE_PORT_INIT;
 
-/* Whether a port may be handed on: `self` is NULL where none was made, and else the place where one was made. */
+/* Whether a port may be passed on: `self` is NULL if none was made, otherwise the address at which it was made. */
 static riddlesage_status port_at(const riddlesage_port *port)
 {
   if (port == NULL)
@@ -46,14 +46,14 @@ static riddlesage_status port_at(const riddlesage_port *port)
   return port->self == port ? RIDDLESAGE_OK : RIDDLESAGE_MOVED;
 }
 
-/* The same of a call that also needs whether these pointers are there; the port's fault comes first. */
+/* The status of a port, or if that is OK, of the other pointers of the call. */
 static riddlesage_status port_with(const riddlesage_port *port, bool pointers)
 {
   riddlesage_status status = port_at(port);
   return status == RIDDLESAGE_OK && !pointers ? RIDDLESAGE_NULL_POINTER : status;
 }
 
-/* Whether a port may be made there. Where none was, the room is made ready. */
+/* Whether a port may be made there. If there was none, its struct is initialised. */
 static riddlesage_status room_at(riddlesage_port *port)
 {
   riddlesage_status status = port_at(port);
@@ -201,7 +201,7 @@ EXPORT riddlesage_status riddlesage_port_entry(riddlesage_port *port, size_t num
   return status == RIDDLESAGE_OK ? (riddlesage_status)can_c_entry(&port->handle, number, frame, sent) : status;
 }
 
-/* Whether these ports can be those of a bus: each was made, and is there once. */
+/* Whether these ports can form a bus: each was made, and none is there twice. */
 static riddlesage_status ports_at(riddlesage_port *const *ports, size_t count)
 {
   size_t place, other;
@@ -221,7 +221,7 @@ static riddlesage_status ports_at(riddlesage_port *const *ports, size_t count)
   return RIDDLESAGE_OK;
 }
 
-/* The handles of the ports are together for the call, and then in their places again. */
+/* The handles are collected in one array for the call, and then put back. */
 EXPORT riddlesage_status riddlesage_play(riddlesage_port *const *ports, size_t count, const riddlesage_offer *offers,
                                          size_t offer_count, const riddlesage_hit *hits, size_t hit_count,
                                          uint8_t *levels, size_t bits, size_t *refused)

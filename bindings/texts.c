@@ -1,6 +1,6 @@
 /*
- * The public calls over the proved ones of crates/can_page, which write texts: each tests its pointers, takes room for
- * the text while it is written, and copies it. Nothing here is proved, and nothing here knows a rule of CAN.
+ * The public calls over the proved functions of crates/can_page, which write texts: each checks its pointers, allocates
+ * a buffer for the text, and copies it. Nothing here is proved, and no rule of CAN is here.
  */
 #include "riddlesage.h"
 
@@ -10,17 +10,17 @@
 
 #define EXPORT __attribute__((visibility("default")))
 
-/* What a proved call answers. */
+/* The results of the proved functions. */
 enum { DONE = 0, FULL = 1, BAD_LEVEL = 2, BAD_SCENARIO = 6 };
 
-/* The room for a text. Each content is allowed before it is written. */
+/* The buffer for a text. It may have any content before it is written. */
 struct lines {
   size_t count;
   bool full;
   char bytes[RIDDLESAGE_MOST_TEXT];
 };
 
-/* What is wrong in a scenario: the number of the field, with the port or element where it is one of these. */
+/* What is wrong in a scenario: the number of the field, and its port or element if it has one. */
 struct wrong {
   size_t number;
   size_t element;
@@ -32,7 +32,7 @@ uint8_t page_run(const char *text, size_t length, struct lines *out, struct wron
 uint8_t page_decode(const uint8_t *text, size_t length, struct lines *out, uint64_t *place);
 uint8_t page_decode_levels(const uint8_t *levels, size_t length, struct lines *out, uint64_t *place);
 
-/* Gives a text, or tells how long it is where there is too little room. */
+/* Copies a text out, or returns only its length if the caller's buffer is too small. */
 static riddlesage_status give(const struct lines *lines, char *out, size_t room, size_t *count)
 {
   *count = lines->count;
@@ -42,7 +42,7 @@ static riddlesage_status give(const struct lines *lines, char *out, size_t room,
   return RIDDLESAGE_OK;
 }
 
-/* The name of a field, as canbit tells it. */
+/* The name of a field, as canbit prints it. */
 static void name_field(const struct wrong *wrong, char *field)
 {
   static const char *const names[] = {
@@ -89,7 +89,7 @@ EXPORT riddlesage_status riddlesage_run(const char *text, size_t length, char *r
   return status;
 }
 
-/* What a proved function makes of a trace, which is a text or levels. */
+/* A proved function that decodes a trace, given as text or as levels. */
 typedef uint8_t decoding(const uint8_t *trace, size_t length, struct lines *out, uint64_t *place);
 
 static riddlesage_status decode(decoding *by, const uint8_t *trace, size_t length, struct lines *lines, char *out,
@@ -111,7 +111,7 @@ static riddlesage_status decode(decoding *by, const uint8_t *trace, size_t lengt
   return RIDDLESAGE_BAD_BYTE;
 }
 
-/* The same over room for the lines, which it takes. */
+/* Decodes a trace into a buffer that it allocates, and copies the lines out. */
 static riddlesage_status decode_with_room(decoding *by, const uint8_t *trace, size_t length, char *out, size_t room,
                                           size_t *count, size_t *place)
 {

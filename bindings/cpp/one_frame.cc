@@ -1,4 +1,4 @@
-// What the page shows: a port is offered a frame, and another one receives it.
+// The example of bindings/cpp/README.md: one port sends a frame and another receives it, then a bus with one call.
 //
 //     c++ -std=c++20 -I bindings -I bindings/cpp -o one_frame bindings/cpp/one_frame.cc bindings/out/libriddlesage.a
 #include <riddlesage.hpp>
@@ -15,7 +15,7 @@ int main()
 {
   std::vector<Port> ports;
   while (ports.size() < 2) {
-    auto port = Port::idle(16, 64); // 16 frames may wait, the log has 64 entries; none without memory
+    auto port = Port::idle(16, 64); // capacity: 16 queued frames, 64 log entries; none without memory
     if (!port)
       return 1;
     ports.push_back(std::move(*port));
@@ -30,8 +30,8 @@ int main()
   }
 
   const std::array offers{Offer{.time = 5, .port = 1, .frame = {.identifier = 0x124}}};
-  const std::array hits{Hit::in(0, 16)}; // 16 bit times behind the start of attempt 0
+  const std::array hits{Hit::in(0, 16)}; // 16 bit times after the start of attempt 0
   std::array<Level, 200> levels{};
-  if (riddlesage::play(ports, offers, hits, levels).status == Status::ok) // a bus by one call
+  if (riddlesage::play(ports, offers, hits, levels).status == Status::ok) // a bus with one call
     std::printf("%d\n", ports[1].counters().transmit); // 7
 }

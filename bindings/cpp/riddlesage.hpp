@@ -1,10 +1,11 @@
 /// @file riddlesage.hpp
-/// @brief riddlesage.h for C++20: a classical CAN controller at whole bit times, as a golden model.
+/// @brief riddlesage.h for C++20: a bit-level reference model of a classical CAN controller.
 ///
-/// A Port frees itself, can be moved and kept in containers, and takes and gives enumerations and spans in place of
-/// numbers and pointers. Nothing throws but text(), play(), run(), decode_trace() and decode_levels(), where there is no
-/// memory for a text or a list. A call that can be refused answers a Status, and nothing has changed where that is not
-/// Status::ok. What each call does stands in riddlesage.h; that is proved, and this header is not.
+/// A Port is a CAN node. It frees itself, and can be moved and kept in containers. Enumerations and spans replace
+/// numbers and pointers. Only text(), play(), run(), decode_trace() and decode_levels() may throw, if there is no
+/// memory for a text or a list. A call that can fail returns a Status; unless it is Status::ok, nothing has changed.
+/// riddlesage.h says what each call does. The Rattle functions that the calls use are proved; this header is only
+/// tested.
 #ifndef RIDDLESAGE_HPP
 #define RIDDLESAGE_HPP
 
@@ -28,7 +29,7 @@
 
 namespace riddlesage {
 
-/// A level of the bus. Dominant overrides recessive: `a & b` is the level of a wire that both drive.
+/// A level: the value of a bit. Dominant overrides recessive: `a & b` is the level of a bus that both drive (2).
 enum class Level : std::uint8_t { dominant = RIDDLESAGE_DOMINANT, recessive = RIDDLESAGE_RECESSIVE };
 
 [[nodiscard]] constexpr Level operator&(Level one, Level other) noexcept
@@ -44,7 +45,7 @@ constexpr Level &operator&=(Level &one, Level other) noexcept { return one = one
   return level == Level::recessive ? Level::dominant : Level::recessive;
 }
 
-/// What a call answers.
+/// The result of a call.
 enum class Status : std::uint8_t {
   ok = RIDDLESAGE_OK,
   no_memory = RIDDLESAGE_NO_MEMORY,
@@ -68,7 +69,7 @@ enum class Status : std::uint8_t {
   bad_wire = RIDDLESAGE_BAD_WIRE
 };
 
-/// What a bit time brings to a port.
+/// The event of a bit time, as a port reports it.
 enum class Event : std::uint8_t {
   nothing = RIDDLESAGE_NOTHING,
   sent = RIDDLESAGE_SENT,
@@ -84,14 +85,14 @@ enum class Event : std::uint8_t {
   recovered = RIDDLESAGE_RECOVERED
 };
 
-/// The state of fault confinement.
+/// The state of fault confinement (8).
 enum class State : std::uint8_t {
   error_active = RIDDLESAGE_ERROR_ACTIVE,
   error_passive = RIDDLESAGE_ERROR_PASSIVE,
   bus_off = RIDDLESAGE_BUS_OFF
 };
 
-/// The phase in which a port is before a bit time.
+/// The phase of a port before a bit time.
 enum class Phase : std::uint8_t {
   joining = RIDDLESAGE_PHASE_JOINING,
   idle = RIDDLESAGE_PHASE_IDLE,
@@ -110,7 +111,7 @@ enum class Phase : std::uint8_t {
   bus_off = RIDDLESAGE_PHASE_BUS_OFF
 };
 
-/// A rule of docs/ACCESS.md, which decides in a bit time.
+/// The rule of docs/ACCESS.md that decides in a bit time.
 enum class Rule : std::uint8_t {
   joining = RIDDLESAGE_RULE_JOINING,
   start_of_frame = RIDDLESAGE_RULE_START_OF_FRAME,
@@ -130,53 +131,53 @@ enum class Rule : std::uint8_t {
 
 namespace detail {
 
-/// A text of the library, none where it is told by no pointer.
+/// A string of the library; empty for a null pointer.
 [[nodiscard]] inline std::string_view text_of(const char *text) noexcept { return text != nullptr ? text : ""; }
 
 } // namespace detail
 
-/// The name of a status, as "queue full".
+/// The name of a status, such as "queue full".
 [[nodiscard]] inline std::string_view name(Status status) noexcept
 {
   return detail::text_of(riddlesage_status_name(static_cast<riddlesage_status>(status)));
 }
 
-/// The name of an event, as "bit error".
+/// The name of an event, such as "bit error".
 [[nodiscard]] inline std::string_view name(Event event) noexcept
 {
   return detail::text_of(riddlesage_event_name(static_cast<riddlesage_event>(event)));
 }
 
-/// The name of a phase, as "end-of-frame".
+/// The name of a phase, such as "end-of-frame".
 [[nodiscard]] inline std::string_view name(Phase phase) noexcept
 {
   return detail::text_of(riddlesage_phase_name(static_cast<riddlesage_phase>(phase)));
 }
 
-/// The name of a rule, as "Stuff places".
+/// The name of a rule, such as "Stuff places".
 [[nodiscard]] inline std::string_view name(Rule rule) noexcept
 {
   return detail::text_of(riddlesage_rule_name(static_cast<riddlesage_rule>(rule)));
 }
 
-/// The version of the library, with which RIDDLESAGE_VERSION is to agree.
+/// The version of the library, which should be RIDDLESAGE_VERSION.
 [[nodiscard]] inline std::string_view version() noexcept { return riddlesage_version(); }
 
 /// A data frame or a remote frame: `Frame{.identifier = 0x123, .dlc = 2, .data = {0xaa, 0x55}}`.
 struct Frame {
-  std::uint32_t identifier = 0;      ///< 0 to 0x7ff, or to 0x1fffffff where it is extended
+  std::uint32_t identifier = 0;      ///< 0 to 0x7ff; 0 to 0x1fffffff if it is extended
   bool extended = false;             ///< whether the identifier has 29 bits
   bool remote = false;               ///< whether it is a remote frame
   std::uint8_t dlc = 0;              ///< the data length code, 0 to 15; 9 to 15 mean eight bytes
-  std::array<std::uint8_t, 8> data{}; ///< a data frame has the first ones, as the DLC says
+  std::array<std::uint8_t, 8> data{}; ///< the first min(DLC, 8) bytes are those of a data frame
 
-  /// The bytes that the frame has: none of a remote frame.
+  /// The data bytes of the frame: none for a remote frame.
   [[nodiscard]] constexpr std::span<const std::uint8_t> bytes() const noexcept
   {
     return std::span(data).first(remote ? 0U : std::min<std::size_t>(dlc, data.size()));
   }
 
-  /// Whether it is the same frame; what stands behind its bytes has no meaning.
+  /// Whether it is the same frame; `data` after the frame's bytes is not compared.
   [[nodiscard]] friend constexpr bool operator==(const Frame &one, const Frame &other) noexcept
   {
     return one.identifier == other.identifier && one.extended == other.extended && one.remote == other.remote &&
@@ -184,26 +185,26 @@ struct Frame {
   }
 };
 
-/// What a bit time brought, and the frame where one was sent or received.
+/// The event of a bit time, and the frame if one was sent or received.
 struct Told {
   Event event = Event::nothing;
   std::optional<Frame> frame;
 
-  /// Whether it brought anything.
+  /// Whether there was an event.
   [[nodiscard]] explicit operator bool() const noexcept { return event != Event::nothing; }
 };
 
-/// A frame in a port's log: whether the port sent it, or received it.
+/// An entry of a port's log: a frame, and whether the port sent or received it.
 struct Entry {
   Frame frame;
   bool sent = false;
 };
 
-/// Where a port stands before a bit time.
+/// The protocol state of a port before a bit time.
 struct Standing {
   Phase phase = Phase::idle;
-  std::uint8_t place = 0; ///< how much of the phase has come; 0 where it has no places
-  bool sender = false;    ///< whether the port is the sender of the frame on the bus
+  std::uint8_t place = 0; ///< progress within the phase; 0 in phases of one bit, and when idle
+  bool sender = false;    ///< whether the port is the transmitter of the frame on the bus
   Rule rule = Rule::start_of_frame;
 
   [[nodiscard]] friend constexpr bool operator==(const Standing &, const Standing &) noexcept = default;
@@ -217,7 +218,7 @@ struct Counters {
   [[nodiscard]] friend constexpr bool operator==(const Counters &, const Counters &) noexcept = default;
 };
 
-/// A frame as it was heard: with the levels that a receiver takes at either value.
+/// A frame as received, with the bits for which a receiver accepts either level.
 struct Heard {
   Frame frame;
   bool acknowledged = false;
@@ -225,13 +226,13 @@ struct Heard {
   Level r1 = Level::dominant;
   Level r0 = Level::dominant;
   Level last = Level::recessive;
-  std::size_t length = 0; ///< how many levels it had
+  std::size_t length = 0; ///< how many levels it had, stuff bits included
 };
 
-/// Levels begin with no frame: too_short, no_start, stuff, crc or form, or bad_level, with a place of 0.
+/// Why levels begin with no frame: too_short, no_start, stuff, crc or form; or bad_level, with a place of 0.
 struct Fault {
   Status kind = Status::too_short;
-  std::size_t place = 0; ///< how many levels stand before the first one that is wrong
+  std::size_t place = 0; ///< how many levels come before the first wrong one
 };
 
 /// The levels of a frame, or why there are none.
@@ -250,14 +251,14 @@ private:
 
 namespace detail {
 
-// What crosses to C: enumerations of one byte, which may be reached as bytes.
+// Arguments for C: enumerations of one byte, which may be accessed as bytes.
 // NOLINTBEGIN(cppcoreguidelines-pro-type-reinterpret-cast)
 [[nodiscard]] inline const std::uint8_t *bytes_of(std::span<const Level> of) noexcept
 {
   return reinterpret_cast<const std::uint8_t *>(of.data());
 }
 
-/// The same for calls that take no null pointer: of no levels a place from which nothing is read.
+/// The levels for calls that refuse a null pointer: if there are none, an address from which nothing is read.
 [[nodiscard]] inline const std::uint8_t *front_of(std::span<const Level> of) noexcept
 {
   static constexpr std::uint8_t nothing = 0;
@@ -277,7 +278,7 @@ namespace detail {
 
 [[nodiscard]] constexpr Status status_of(riddlesage_status status) noexcept { return static_cast<Status>(status); }
 
-/// For calls that are refused nothing while a port is live: one that was moved from ends the program.
+/// Checks calls that cannot fail on a live port: a call of a port that was moved from ends the program.
 inline void demand(riddlesage_status status) noexcept
 {
   if (status != RIDDLESAGE_OK)
@@ -309,24 +310,24 @@ struct Offer;
 struct Played;
 class Hit;
 
-/// A controller with a queue of frames to send and a log of the frames that were on the bus. A port that was moved from
-/// may be destroyed and assigned to; any other call of it ends the program.
+/// A CAN node: a controller with a transmit queue, and a log of the frames that it has sent and received. A port that
+/// was moved from may be destroyed and assigned to; any other call of it ends the program.
 class Port {
 public:
-  /// A port that is on the bus and idle, with room for so many frames that wait and so many entries of the log; none
-  /// where there is no memory.
+  /// Makes a port that is on the bus and idle, with the capacity of its transmit queue, in frames, and of its log, in
+  /// entries; none without memory.
   [[nodiscard]] static std::optional<Port> idle(std::size_t queue, std::size_t log) noexcept
   {
     return made(riddlesage_port_idle, queue, log);
   }
 
-  /// The same, of a port that waits for eleven recessive levels in a row before it is on the bus.
+  /// Makes a port that begins with bus integration: it waits for eleven recessive levels in a row before it takes part.
   [[nodiscard]] static std::optional<Port> joining(std::size_t queue, std::size_t log) noexcept
   {
     return made(riddlesage_port_joining, queue, log);
   }
 
-  /// A port that is what this one is, and does the same from then on; none where there is no memory.
+  /// Copies the port: from then on the copy behaves as this one does; none without memory.
   [[nodiscard]] std::optional<Port> copy() const noexcept
   {
     Place at(riddlesage_port_new());
@@ -339,20 +340,20 @@ public:
     return Port(std::move(at));
   }
 
-  /// Offers a frame, which waits behind those that were offered before. bad_identifier, bad_dlc, queue_full.
+  /// Queues a frame for transmission. Fails with bad_identifier, bad_dlc, queue_full.
   [[nodiscard]] Status offer(const Frame &frame) noexcept
   {
     const riddlesage_frame plain = detail::plain(frame);
     return answered(riddlesage_port_offer(at_.get(), &plain));
   }
 
-  /// Asks for so many overload frames of the port's own, 0 to 2, in place of an earlier wish. bad_count.
+  /// Requests 0 to 2 overload frames, in place of an earlier request (3.2.4). Fails with bad_count.
   [[nodiscard]] Status hold(std::uint8_t count) noexcept { return answered(riddlesage_port_hold(at_.get(), count)); }
 
   /// The level that the port drives in this bit time.
   [[nodiscard]] Level drive() const noexcept { return static_cast<Level>(number_of(riddlesage_port_drive)); }
 
-  /// Samples the level that the bus has in this bit time, and tells what it brought.
+  /// Passes one bit time: samples the level of the bus, and returns the event.
   Told sample(Level bus) noexcept
   {
     std::uint8_t event = 0;
@@ -364,8 +365,8 @@ public:
     return told;
   }
 
-  /// Samples these levels, one a bit time, whatever the port drives; writes what it drove in each bit time, and what
-  /// each brought. no_levels, no_room, bad_level.
+  /// Samples these levels, one per bit time, whatever the port drives; writes what it drove in each bit time, and the
+  /// event of each. Fails with no_levels, no_room, bad_level.
   [[nodiscard]] Status run(std::span<const Level> levels, std::span<Level> drives, std::span<Event> events) noexcept
   {
     if (levels.empty())
@@ -385,7 +386,7 @@ public:
 
   [[nodiscard]] State state() const noexcept { return static_cast<State>(number_of(riddlesage_port_state)); }
 
-  /// Where the port stands before the next bit time, and the rule that decides there.
+  /// The phase of the port before the next bit time, and the rule that decides in it.
   [[nodiscard]] Standing phase() const noexcept
   {
     riddlesage_standing at{};
@@ -396,10 +397,10 @@ public:
   /// How many entries the log has.
   [[nodiscard]] std::size_t log_length() const noexcept { return number_of(riddlesage_port_log_length); }
 
-  /// How many entries the log had no room for.
+  /// The number of entries for which the log had no capacity.
   [[nodiscard]] std::uint32_t missed() const noexcept { return number_of(riddlesage_port_missed); }
 
-  /// The entry of the log with this number, the oldest having 0; none where there is no such entry.
+  /// The entry of the log with this number, the oldest being 0; none if there is no such entry.
   [[nodiscard]] std::optional<Entry> entry(std::size_t number) const noexcept
   {
     riddlesage_frame frame{};
@@ -428,7 +429,7 @@ private:
     return Port(std::move(at));
   }
 
-  /// The number that this call of the library tells of the port.
+  /// The number that this call of the library returns for the port.
   template <typename Number>
   [[nodiscard]] Number number_of(riddlesage_status (*tell)(riddlesage_port *, Number *)) const noexcept
   {
@@ -437,7 +438,7 @@ private:
     return number;
   }
 
-  /// Where the port is kept: one that was moved from ends the program.
+  /// The address of the port; a port that was moved from ends the program.
   [[nodiscard]] riddlesage_port *place() const noexcept
   {
     if (at_ == nullptr)
@@ -454,36 +455,36 @@ private:
   Place at_;
 };
 
-/// A frame that is offered to a port of a bus while it runs.
+/// A frame that is queued at a port while the bus runs.
 struct Offer {
-  std::uint64_t time = 0; ///< the bit time before which it is offered, the first of the call being 0
-  std::size_t port = 0;   ///< the number of the port, the first being 0
+  std::uint64_t time = 0; ///< the bit time before which it is queued; the first of the call is 0
+  std::size_t port = 0;   ///< the index of the port; the first is 0
   Frame frame;
 };
 
-/// How a bus has run.
+/// The result of play().
 struct Played {
-  Status status = Status::ok; ///< where it isn't ok, no port has changed, and no level is written
-  std::size_t refused = 0;    ///< how many of the frames that were offered a full queue refused
+  Status status = Status::ok; ///< unless it is ok, no port has changed, and no level is written
+  std::size_t refused = 0;    ///< how many of the offers a full queue refused
 };
 
-/// A disturbance of one bit time of a bus.
+/// An injected bit error, in one bit time of a bus.
 class Hit {
 public:
-  /// The level of the wire is inverted in this bit time, the first of the call being 0.
+  /// For all nodes, the level of the bus is inverted in this bit time; the first of the call is 0.
   [[nodiscard]] static constexpr Hit at(std::uint64_t time) noexcept
   {
     return Hit({time, 0, 0, 0, RIDDLESAGE_HIT_AT});
   }
 
-  /// It is inverted so many bit times behind the start of an attempt, the first of the call being 0, unless a later one
-  /// has begun by then.
+  /// For all nodes, it is inverted `offset` bit times after the start of a transmission attempt, unless a later one has
+  /// begun by then; the first of the call is 0.
   [[nodiscard]] static constexpr Hit in(std::uint64_t attempt, std::uint64_t offset) noexcept
   {
     return Hit({0, attempt, offset, 0, RIDDLESAGE_HIT_IN});
   }
 
-  /// This port alone sees the inverse of the level of the wire in this bit time.
+  /// This port alone samples the inverse of the bus level in this bit time.
   [[nodiscard]] static constexpr Hit view(std::uint64_t time, std::size_t port) noexcept
   {
     return Hit({time, 0, 0, port, RIDDLESAGE_HIT_VIEW});
@@ -494,7 +495,7 @@ private:
                      std::span<Level> levels);
   friend class Wire;
 
-  /// A Hit is its plain fields, and nothing else.
+  /// The hits as C has them: a Hit has their fields, and nothing else.
   static const riddlesage_hit *plain(std::span<const Hit> hits) noexcept
   {
     static_assert(sizeof(Hit) == sizeof(riddlesage_hit) && std::is_standard_layout_v<Hit>);
@@ -507,10 +508,10 @@ private:
   riddlesage_hit plain_;
 };
 
-/// Runs a bus of 1 to 64 ports, a bit time for each level, offers frames to them meanwhile, and disturbs it; writes the
-/// level of the wire in each bit time. Offers come in the order of their times; hits first at times, then in attempts,
-/// then views, and each kind by rising numbers. The ports go on from where they stand, and stand where they are behind
-/// it. bad_bus, bad_identifier, bad_dlc, no_memory, bad_order, no_such_port.
+/// Runs a bus of 1 to 64 ports for one bit time per level, queues frames at their times, injects bit errors, and writes
+/// the levels of the bus. Offers are in the order of their times; hits in strictly rising order: those of at(), then of
+/// in(), then of view(). The ports continue from their present state, and keep the state that they reach. Fails with
+/// bad_bus, bad_identifier, bad_dlc, no_memory, bad_order, no_such_port.
 [[nodiscard]] inline Played play(std::span<Port> ports, std::span<const Offer> offers, std::span<const Hit> hits,
                                  std::span<Level> levels)
 {
@@ -532,14 +533,14 @@ private:
   return out;
 }
 
-/// A wire between two bit times, for a bus whose ports and controllers of one's own are called bit time by bit time. It
-/// begins where no bit time has passed, and counts as recessive. It is a value, and takes no memory.
+/// The state of a bus between two bit times, without its nodes: for a bus on which some nodes are your own code. At
+/// first no bit time has passed, and the bus counts as recessive for eleven. It is a value, and allocates no memory.
 class Wire {
 public:
-  /// Passes one bit time, in which each drives one of these levels: writes the level of the wire, which is dominant where
-  /// anyone drives dominant, and inverted where it is hit, and what each sees, where that is asked for. Hits may stand in
-  /// any order, and be others in each bit time. no_room where there is room for some, but not for each; no_such_port of
-  /// a hit on what nobody sees.
+  /// Passes one bit time, in which each node drives one of these levels. Writes the level of the bus, dominant if any
+  /// node drives dominant, and inverted if a hit falls on it; and what each node samples, unless `seen` is empty. Hits
+  /// may be in any order, and differ from bit time to bit time. Fails with no_room if `seen` is neither empty nor as
+  /// long as `drives`, and with no_such_port for a view of no node.
   [[nodiscard]] Status step(std::span<const Level> drives, std::span<const Hit> hits, Level &level,
                             std::span<Level> seen = {}) noexcept
   {
@@ -553,15 +554,15 @@ public:
   /// How many bit times have passed.
   [[nodiscard]] std::uint64_t time() const noexcept { return plain_.time; }
 
-  /// How many attempts to send a frame have begun.
+  /// How many transmission attempts have begun.
   [[nodiscard]] std::uint64_t attempts() const noexcept { return plain_.attempts; }
 
 private:
   riddlesage_wire plain_ = RIDDLESAGE_WIRE_INIT;
 };
 
-/// The levels of the frame as its sender drives them, from the start of frame to the end of frame, the ACK slot
-/// recessive. bad_identifier, bad_dlc.
+/// Encodes a frame: the levels that its transmitter drives from the start of frame to the end of frame, with stuff
+/// bits, the ACK slot recessive (3.2.1, 3.2.2, 6). Fails with bad_identifier, bad_dlc.
 [[nodiscard]] inline Encoded encode(const Frame &frame) noexcept
 {
   Encoded out;
@@ -571,7 +572,7 @@ private:
   return out;
 }
 
-/// What is heard of the frame at the front of the levels; or the fault where no frame stands there.
+/// Decodes the frame with which the levels begin; or returns the fault if they begin with none.
 [[nodiscard]] inline std::variant<Heard, Fault> decode(std::span<const Level> levels) noexcept
 {
   riddlesage_heard heard{};
@@ -584,17 +585,17 @@ private:
                level(heard.r0), level(heard.last), place};
 }
 
-/// What a scenario or a trace is answered: the report, or the lines.
+/// The output for a scenario or a trace: the report, or the lines.
 struct Written {
   Status status = Status::ok;
   std::string text;      ///< with bad_byte the lines of the levels before that byte
-  std::string field;     ///< with bad_scenario the first field that is wrong, as "port[0].log"
-  std::size_t place = 0; ///< with bad_byte how many bytes stand before that one
+  std::string field;     ///< with bad_scenario the first field that is wrong, such as "port[0].log"
+  std::size_t place = 0; ///< with bad_byte how many bytes come before that one
 };
 
 namespace detail {
 
-/// What a call of this sort answers, once there is room for the text that it writes.
+/// The result of a call that writes a text; if the first buffer is too small, it is called again with a larger one.
 template <typename Call> [[nodiscard]] Written written(const Call &call)
 {
   constexpr std::size_t room = 65536;
@@ -612,8 +613,8 @@ template <typename Call> [[nodiscard]] Written written(const Call &call)
 
 } // namespace detail
 
-/// Runs a scenario, a document in TOML, and gives its report: what `canbit run` writes. bad_scenario, no_memory, and
-/// no_room where the report has more than RIDDLESAGE_MOST_TEXT bytes.
+/// Simulates a scenario, a TOML document, and returns its report: the output of `canbit run`. Fails with bad_scenario,
+/// no_memory, and no_room if the report has more than RIDDLESAGE_MOST_TEXT bytes.
 [[nodiscard]] inline Written run(std::string_view scenario)
 {
   std::array<char, RIDDLESAGE_FIELD_ROOM> field{};
@@ -626,8 +627,8 @@ template <typename Call> [[nodiscard]] Written written(const Call &call)
   return out;
 }
 
-/// Finds the frames and the faults in a trace, a text of `0` and `1` with blanks and line ends, and gives their lines:
-/// what `canbit decode` writes. bad_byte, no_memory, and no_room where they have more than RIDDLESAGE_MOST_TEXT bytes.
+/// Decodes a trace, a text of `0` and `1` with spaces and line ends, and returns a line for each frame and fault: the
+/// output of `canbit decode`. Fails with bad_byte, no_memory, and no_room beyond RIDDLESAGE_MOST_TEXT bytes.
 [[nodiscard]] inline Written decode_trace(std::string_view trace)
 {
   const char *const at = trace.empty() ? "" : trace.data();
@@ -636,8 +637,8 @@ template <typename Call> [[nodiscard]] Written written(const Call &call)
   });
 }
 
-/// Finds the frames and the faults in levels, and gives their lines: those of decode_trace() for their text. no_memory,
-/// and no_room where they have more than RIDDLESAGE_MOST_TEXT bytes.
+/// Decodes a trace given as levels, and returns the lines of decode_trace() for the same levels as text. Fails with
+/// no_memory, and no_room beyond RIDDLESAGE_MOST_TEXT bytes.
 [[nodiscard]] inline Written decode_levels(std::span<const Level> levels)
 {
   const std::uint8_t *const at = detail::front_of(levels);
@@ -646,7 +647,7 @@ template <typename Call> [[nodiscard]] Written written(const Call &call)
   });
 }
 
-/// The text of a frame, as `S 123 D 2 aa55`.
+/// The text of a frame, such as `S 123 D 2 aa55`.
 [[nodiscard]] inline std::string text(const Frame &frame)
 {
   constexpr std::string_view digits = "0123456789abcdef";

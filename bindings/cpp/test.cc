@@ -1,4 +1,4 @@
-// What riddlesage.hpp adds to riddlesage.h: ports that move, refusals by name, frames and levels by their types.
+// Tests what riddlesage.hpp adds to riddlesage.h: ports that move, errors by name, frames and levels by type.
 #include "riddlesage.hpp"
 
 #include <cstdio>
@@ -95,7 +95,7 @@ void refusals()
   want(events[0] == Event::bit_error, "which is not on the bus");
 }
 
-// Ports on a bus by one call: what is offered and disturbed, and what is refused.
+// Ports on a bus with one call: offers, bit errors, and what is refused.
 void buses()
 {
   std::vector<Port> ports;
@@ -112,12 +112,12 @@ void buses()
   want(play(ports, {}, {}, {}).status == Status::ok, "no bit times");
   const Played played = play(ports, offers, hits, levels);
   want(played.status == Status::ok && played.refused == 1, "a queue that is full");
-  want(levels[4] == Level::recessive && levels[5] == Level::dominant, "a frame behind its time");
+  want(levels[4] == Level::recessive && levels[5] == Level::dominant, "a frame at its time");
   want(ports[0].counters() == Counters{7, 0} && ports[0].log_length() == 1, "a frame that is sent again");
   want(ports[1].log_length() == 1 && ports[1].entry(0)->frame == some, "and received once");
 }
 
-// A bus bit time by bit time over a wire has the levels and the counters of one call.
+// A bus that is stepped bit time by bit time has the levels and the counters of one call.
 void wires()
 {
   const std::array offers{Offer{5, 0, some}};
@@ -160,7 +160,7 @@ void moves()
   std::vector<Port> ports;
   for (int count = 0; count < 40; count++)
     ports.push_back(made(1, 4)); // NOLINT: it is to grow
-  want(ports[17].offer(some) == Status::ok, "an offer behind the moves");
+  want(ports[17].offer(some) == Status::ok, "an offer after the moves");
   std::swap(ports[17], ports[3]);
   ports.erase(ports.begin() + 20, ports.end());
   ports[5] = made(1, 4);

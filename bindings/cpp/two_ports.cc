@@ -1,5 +1,5 @@
-// Two ports on one wire, each with a frame to send, and what was there at the end: the levels of the bus, and the
-// state, counters and log of each port. It is what `canbit run` prints for examples/scenarios/two_ports.toml.
+// Two ports on one bus, each with a frame to send. It prints the levels of the bus, and the state, counters and log of
+// each port: the output of `canbit run` for examples/scenarios/two_ports.toml.
 //
 //     c++ -std=c++20 -I bindings -I bindings/cpp -o two_ports bindings/cpp/two_ports.cc bindings/out/libriddlesage.a
 #include "riddlesage.hpp"
@@ -12,7 +12,7 @@ namespace {
 
 constexpr int bit_times = 103;
 
-// One bit time: the bus is dominant where a port drives dominant, and each port samples it.
+// One bit time: the bus is dominant if a port drives dominant, and each port samples it.
 riddlesage::Level bit_time(std::vector<riddlesage::Port> &ports)
 {
   auto bus = riddlesage::Level::recessive;

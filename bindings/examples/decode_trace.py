@@ -1,5 +1,5 @@
 #!/usr/bin/env python3
-"""Decodes a trace, as `canbit decode` does: its frames and its faults, a line for each, with their places.
+"""Decodes a trace, as `canbit decode` does: prints a line for each frame and each fault, with its position.
 
     bindings/examples/decode_trace.py examples/trace.txt
 
@@ -15,14 +15,14 @@ sys.path.insert(0, str(pathlib.Path(__file__).resolve().parent.parent / "python"
 
 from riddlesage import DOMINANT, Fault, Heard, Status, decode
 
-# The kinds of faults as the program tells them.
+# The kinds of faults as canbit prints them.
 CODES = {Status.SHORT: "C1", Status.NO_START: "C2", Status.STUFF: "C3", Status.CRC: "C4", Status.FORM: "C5"}
-# A bus that was recessive for so long is at rest.
+# The idle condition: eleven recessive levels.
 REST = bytes([1] * 11)
 
 
 def line_of(place: int, heard: Heard) -> str:
-    """The line of a frame that begins at this place."""
+    """The line of a frame that begins at this position."""
     words = [str(place), heard.frame.text, "ack" if heard.acknowledged else "noack"]
     words += ["srr0"] * (heard.srr == DOMINANT)
     words += ["r1"] * (heard.r1 != DOMINANT) + ["r0"] * (heard.r0 != DOMINANT) + ["eof0"] * (heard.last == DOMINANT)

@@ -3,7 +3,7 @@
 #include <stdio.h>
 #include <string.h>
 
-/* How many data bytes a frame has. */
+/* The number of data bytes of a frame. */
 static unsigned data_bytes(const riddlesage_frame *frame)
 {
   return frame->remote ? 0 : frame->dlc < 8 ? frame->dlc : 8;

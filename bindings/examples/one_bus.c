@@ -1,6 +1,6 @@
 /*
- * Two ports on a bus by one call: a frame is offered to one of them while it runs, and a level of the wire is inverted,
- * so that it is sent again.
+ * Two ports on a bus, simulated with one call. One of them is given a frame at run time, and an injected bit error makes
+ * it send the frame again.
  *
  *     cc -I bindings -o one_bus bindings/examples/one_bus.c bindings/out/libriddlesage.a
  */
@@ -14,7 +14,7 @@ int main(void)
   riddlesage_port sender = RIDDLESAGE_PORT_INIT, receiver = RIDDLESAGE_PORT_INIT;
   riddlesage_port *ports[] = { &sender, &receiver };
   riddlesage_offer offer = { 5, 0, { 0x123, 0, 0, 0, { 0 } } }; /* to port 0, before bit time 5 */
-  riddlesage_hit hit = { 0, 0, 16, 0, RIDDLESAGE_HIT_IN };      /* 16 bit times behind the start of attempt 0 */
+  riddlesage_hit hit = { 0, 0, 16, 0, RIDDLESAGE_HIT_IN };      /* 16 bit times after the start of attempt 0 */
   riddlesage_status status;
   uint16_t transmit, receive;
   uint8_t levels[200];

@@ -1,5 +1,5 @@
 /*
- * What the page shows: a port is offered a frame, and another one receives it.
+ * The example of bindings/README.md: one port sends a frame, and another receives it.
  *
  *     cc -I bindings -o one_frame bindings/examples/one_frame.c bindings/out/libriddlesage.a
  */
@@ -14,11 +14,11 @@ int main(void)
   uint8_t level, other, event;
   int time;
 
-  riddlesage_port_idle(&sender, 16, 64); /* 16 frames may wait, the log has 64 entries */
+  riddlesage_port_idle(&sender, 16, 64); /* capacity: 16 queued frames, 64 log entries */
   riddlesage_port_idle(&receiver, 16, 64);
   riddlesage_port_offer(&sender, &frame);
   for (time = 0; time < 80; time++) {
-    riddlesage_port_drive(&sender, &level); /* 0 at first: it drives a start of frame */
+    riddlesage_port_drive(&sender, &level); /* 0 at first: a start of frame */
     riddlesage_port_drive(&receiver, &other);
     riddlesage_port_sample(&sender, level & other, &event, NULL);
     riddlesage_port_sample(&receiver, level & other, &event, &frame);

@@ -1,6 +1,6 @@
 /*
- * A port and a controller of one's own on a wire, bit time by bit time. A level of the wire is inverted, so that the
- * frame is sent again.
+ * A port and a controller of your own on one bus, bit time by bit time. An injected bit error makes the port send its
+ * frame again.
  *
  *     cc -I bindings -o one_wire bindings/examples/one_wire.c bindings/out/libriddlesage.a
  */
@@ -9,7 +9,7 @@
 #include <stdio.h>
 #include <stdlib.h>
 
-/* The controller of one's own: a port stands in for it here. */
+/* Your own controller. Here it is another port. */
 static riddlesage_port own = RIDDLESAGE_PORT_INIT;
 
 static uint8_t own_drive(void)
@@ -32,7 +32,7 @@ int main(void)
   riddlesage_port port = RIDDLESAGE_PORT_INIT;
   riddlesage_frame frame = { 0x123, 0, 0, 0, { 0 } };
   riddlesage_wire wire = RIDDLESAGE_WIRE_INIT;
-  riddlesage_hit hit = { 0, 0, 16, 0, RIDDLESAGE_HIT_IN }; /* 16 bit times behind the start of attempt 0 */
+  riddlesage_hit hit = { 0, 0, 16, 0, RIDDLESAGE_HIT_IN }; /* 16 bit times after the start of attempt 0 */
   riddlesage_status status = RIDDLESAGE_OK;
   uint8_t drives[2], seen[2], level, event;
 

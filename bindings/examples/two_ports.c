@@ -1,6 +1,6 @@
 /*
- * Two ports on one wire, each with a frame to send, and what was there at the end: the levels of the bus, and the
- * state, counters and log of each port. It is what `canbit run` prints for examples/scenarios/two_ports.toml.
+ * Two ports on one bus, each with a frame to send. It prints the levels of the bus, and the state, counters and log of
+ * each port: the output of `canbit run` for examples/scenarios/two_ports.toml.
  *
  *     cc -I bindings -o two_ports bindings/examples/two_ports.c bindings/examples/frame_text.c bindings/out/libriddlesage.a
  */
@@ -28,7 +28,7 @@ static void offer(riddlesage_port *port, uint32_t identifier)
   demand(riddlesage_port_offer(port, &frame));
 }
 
-/* One bit time: the bus is dominant where a port drives dominant, and each port samples it. */
+/* One bit time: the bus is dominant if a port drives dominant, and each port samples it. */
 static uint8_t bit_time(riddlesage_port ports[PORTS])
 {
   uint8_t bus = RIDDLESAGE_RECESSIVE;

@@ -1,7 +1,7 @@
-"""Makes the wheel of the package for pip, with nothing but the standard library.
+"""Builds the wheel of the package for pip, with the standard library alone.
 
-It holds the package, the shared object where bindings/build has made it, and the conformance kit. Without the shared
-object the package finds the one that the system has. The version is that of the file VERSION.
+The wheel contains the package, the conformance kit, and the shared object if bindings/build has built it. Without it
+the package uses the shared object that the system has. The version is that of the file VERSION.
 """
 
 from __future__ import annotations
@@ -19,12 +19,12 @@ TOP = HERE.parent.parent
 LIBRARY = HERE.parent / "out" / "libriddlesage.so"
 VERSION = (TOP / "VERSION").read_text("ascii").strip()
 INFO = f"riddlesage-{VERSION}.dist-info"
-# No tag says that the shared object wants version 2 of the instruction set.
+# The tag cannot say that the shared object needs version 2 of the instruction set, x86-64-v2.
 BUILT, PURE = "py3-none-linux_x86_64", "py3-none-any"
 
 
 def files(tag: str) -> Iterator[tuple[str, bytes]]:
-    """What the wheel holds."""
+    """The files of the wheel, with their contents."""
     for path in sorted((HERE / "riddlesage").iterdir()):
         if path.is_file() and path.suffix in (".py", ".typed"):
             yield f"riddlesage/{path.name}", path.read_bytes()
@@ -36,7 +36,7 @@ def files(tag: str) -> Iterator[tuple[str, bytes]]:
     yield f"{INFO}/entry_points.txt", b"[pytest11]\nriddlesage = riddlesage.pytest_plugin\n"
     words = (
         f"Metadata-Version: 2.1\nName: riddlesage\nVersion: {VERSION}\nRequires-Python: >=3.9\n"
-        "Summary: A classical CAN controller at whole bit times, as a golden model\n"
+        "Summary: A bit-level reference model of a classical CAN controller\n"
     )
     yield f"{INFO}/METADATA", words.encode("ascii")
     pure = str(tag == PURE).lower()
@@ -46,12 +46,12 @@ def files(tag: str) -> Iterator[tuple[str, bytes]]:
 
 
 def build_wheel(folder: str, settings: dict[str, Any] | None = None, metadata: str | None = None) -> str:
-    """Writes the wheel to a folder, and gives its name."""
+    """Writes the wheel to a folder, and returns its name."""
     return write_wheel(folder, BUILT if LIBRARY.is_file() else PURE)
 
 
 def write_wheel(folder: str, tag: str) -> str:
-    """Writes the wheel of this tag to a folder, and gives its name. The same files make the same bytes."""
+    """Writes the wheel with this tag to a folder, and returns its name. The same files give the same bytes."""
     name = f"riddlesage-{VERSION}-{tag}.whl"
     record = ""
     with zipfile.ZipFile(os.path.join(folder, name), "w", zipfile.ZIP_DEFLATED) as wheel:
@@ -64,7 +64,7 @@ def write_wheel(folder: str, tag: str) -> str:
 
 
 def write(wheel: zipfile.ZipFile, path: str, content: bytes) -> None:
-    """Writes a file with the first time that a wheel can have."""
+    """Adds a file to the wheel, with the earliest time that a wheel can have."""
     entry = zipfile.ZipInfo(path, (1980, 1, 1, 0, 0, 0))
     entry.external_attr = 0o100644 << 16
     entry.compress_type = zipfile.ZIP_DEFLATED
@@ -72,5 +72,5 @@ def write(wheel: zipfile.ZipFile, path: str, content: bytes) -> None:
 
 
 def build_sdist(folder: str, settings: dict[str, Any] | None = None) -> str:
-    """There is none: the package is a part of its repository."""
+    """There is no source distribution: the package is part of its repository."""
     raise NotImplementedError("the repository itself is the source: pip install bindings/python")

@@ -1,5 +1,5 @@
-//! Links `libriddlesage.a`: of the folder that `RIDDLESAGE_LIB_DIR` names, else of the repository that this crate
-//! stands in, else where the linker looks.
+//! Links `libriddlesage.a`: from the folder that `RIDDLESAGE_LIB_DIR` names, otherwise from the repository that this
+//! crate is in, otherwise from the linker's search path.
 
 use std::env;
 use std::path::{Path, PathBuf};

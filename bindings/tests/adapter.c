@@ -40,7 +40,7 @@ static void print_event(unsigned place, uint8_t event, const riddlesage_frame *f
   putchar('\n');
 }
 
-/* Levels of the tester, bit time by bit time: `f` is seen recessive whatever the port drives. */
+/* Levels of the tester, bit time by bit time: with `f` the port samples recessive, whatever it drives. */
 static void play(riddlesage_port *port, const char *levels)
 {
   static char drove[LINE_ROOM];

@@ -1,4 +1,4 @@
-// The header from C++: a port alone on a wire sends a frame, and nobody acknowledges it.
+// The header from C++: a port alone on a bus sends a frame, and nobody acknowledges it.
 #include "riddlesage.h"
 
 #include <cstdint>

@@ -1,12 +1,12 @@
 /*
- * Misuse of every call but those of misuse_of_buses.c: NULL pointers, ports that are not made, freed, freed twice,
- * copied, not begun as zeros; frames, levels, counts and numbers that are none; lists that are too short or empty; more
- * memory than there is. Each is refused by its name, and changes nothing. It is run under AddressSanitizer and under
- * valgrind.
+ * Misuse of every call except those of misuse_of_buses.c: NULL pointers; ports that were not made, were freed, freed
+ * twice, copied, or not initialised with zeros; invalid frames, levels, counts and numbers; lists that are too short or
+ * empty; too much memory. Each must be refused with its status, and change nothing. It runs with AddressSanitizer and
+ * with valgrind.
  */
 #include "misuse.h"
 
-/* What is written by calls that are not refused. */
+/* The outputs of calls that succeed. */
 static riddlesage_frame frame, told;
 static riddlesage_heard heard;
 static riddlesage_standing standing;
@@ -17,7 +17,7 @@ static uint32_t missed;
 static size_t count, place;
 static char text[4096], field[RIDDLESAGE_FIELD_ROOM];
 
-/* Each call on a port, with arguments that nothing is wrong with. */
+/* Each call on a port, with valid other arguments. */
 static void call_all(riddlesage_port *port, riddlesage_status wanted)
 {
   want(wanted, riddlesage_port_offer(port, &frame), "offer", __LINE__);
@@ -75,7 +75,7 @@ static void null_pointers(riddlesage_port *port)
   WANT(NULL_POINTER, riddlesage_decode_levels(levels, 0, text, sizeof text, NULL, &place));
 }
 
-/* Frames with one field that is none of its values. */
+/* Frames with one field out of range. */
 static void bad_frames(riddlesage_port *port)
 {
   static const struct {
@@ -131,7 +131,7 @@ static void bad_numbers(riddlesage_port *port)
   WANT(OK, riddlesage_encode(&frame, levels, 50, &count));
 }
 
-/* A block of exactly so many bytes, behind which a tool would see a read or a write. */
+/* A block of exactly `size` bytes: a tool would find a read or write after it. */
 static uint8_t *block(size_t size)
 {
   uint8_t *at = malloc(size);
@@ -142,7 +142,7 @@ static uint8_t *block(size_t size)
   return at;
 }
 
-/* Lists are read and written up to their ends and no further. */
+/* Lists are not read or written after their ends. */
 static void exact_lists(riddlesage_port *port)
 {
   size_t size;
@@ -163,7 +163,7 @@ static void exact_lists(riddlesage_port *port)
   }
 }
 
-/* No frame has more levels, so none behind them is read. */
+/* No frame has more levels, so none after them is read. */
 static void behind_the_longest(void)
 {
   static const char frame_001[] = "00000100000101000001000100010000100111011111111";
@@ -213,7 +213,7 @@ static void copied_as_a_struct(riddlesage_port *port)
   call_all(&copy, RIDDLESAGE_MOVED);
 }
 
-/* Over one that was freed, and over a port that is there. */
+/* A port in place of one that was freed, and in place of a live one. */
 static void made_again(riddlesage_port *freed)
 {
   WANT(OK, riddlesage_port_joining(freed, 2, 2));
@@ -227,7 +227,7 @@ static void made_again(riddlesage_port *freed)
   WANT(OK, riddlesage_port_free(freed));
 }
 
-/* Over nothing, over itself, from what is none. */
+/* A copy in place of nothing, in place of itself, and from ports that are not there. */
 static void copied(riddlesage_port *port)
 {
   riddlesage_port zeros, copy;
@@ -272,7 +272,7 @@ static void handles(void)
   without_room(&port);
 }
 
-/* Ports that the library keeps, made or not, and copies of them. */
+/* Ports that the library allocates, made or not, and copies of them. */
 static void kept(void)
 {
   riddlesage_port *port = riddlesage_port_new(), *unmade = riddlesage_port_new(), copy;
@@ -306,7 +306,7 @@ static void want_text(const char *wanted, const char *given, int line)
     want_text(name, field, __LINE__);                                                                     \
   } while (0)
 
-/* Documents that say no scenario, by the field that is wrong, as docs/FORMATS.md orders them. */
+/* Invalid scenarios, by the wrong field, in the order of docs/FORMATS.md. */
 static void bad_scenarios(void)
 {
   WANT_FIELD("toml", "version = ");
@@ -325,7 +325,7 @@ static void bad_scenarios(void)
   WANT_FIELD("port[0].hold", "version = 1\nbits = 1\nport = [{ hold = 3 }]");
 }
 
-/* A scenario and a trace that are taken, with room enough, just enough, and too little. */
+/* A valid scenario and a valid trace, with a buffer that is large enough, just large enough, and too small. */
 static void texts(void)
 {
   static const char scenario[] = "version = 1\nbits = 3\nport = [{}]\n", trace[] = "111 000000\n", bad[] = "0000001x0";
@@ -355,7 +355,7 @@ static void texts(void)
   want(place == 99 ? RIDDLESAGE_OK : RIDDLESAGE_BAD_BYTE, RIDDLESAGE_OK, "a byte behind lines without room", __LINE__);
 }
 
-/* The same trace as levels; and each byte that is no level, also where it may stand in a text. */
+/* The same trace as levels; and each byte that is not a level, also those that a text may have. */
 static void traces_of_levels(void)
 {
   static const uint8_t trace[] = { 1, 1, 1, 0, 0, 0, 0, 0, 0 };

@@ -1,4 +1,4 @@
-/* What the programs of misuse share: each call is held against the status that is wanted of it. */
+/* Common to the misuse programs: the status of each call is compared with the expected one. */
 #ifndef MISUSE_H
 #define MISUSE_H
 
@@ -32,7 +32,7 @@ static void want_same(const void *one, const void *other, size_t size, int line)
 
 #define WANT_SAME(one, other) want_same(&(one), &(other), sizeof(one), __LINE__)
 
-/* Tells how many were as they should be, and gives the status to end with. */
+/* Prints how many calls were as expected, and returns the exit status. */
 static int ended(void)
 {
   printf("%u of %u refused or taken as they should be\n", tried - wrong, tried);

@@ -1,13 +1,13 @@
 /*
- * Misuse of the calls on a bus and on a wire: ports that are none, too many, or there twice; offers, hits, levels and
- * wires that are none, out of order, or of no port. Each is refused by its name, and changes nothing. It is run under
- * AddressSanitizer and under valgrind.
+ * Misuse of the calls on a bus and on a wire: ports that are missing, too many, or there twice; offers, hits, levels
+ * and wires that are invalid, out of order, or of no port. Each must be refused with its status, and change nothing. It
+ * runs with AddressSanitizer and with valgrind.
  */
 #include "misuse.h"
 
 static const riddlesage_frame frame;
 
-/* What a bus is played with: of it a call takes so many ports, offers and hits. */
+/* The arguments for a bus; a call takes the first ports, offers and hits of these. */
 struct play {
   riddlesage_port *ports[RIDDLESAGE_MOST_PORTS + 1];
   riddlesage_offer offers[2];
@@ -22,7 +22,7 @@ static riddlesage_status played(struct play *with, size_t ports, size_t offers, 
                          &with->many);
 }
 
-/* Ports of a bus that are none, too many, or there twice; the third place of the list is free. */
+/* Ports of a bus that are missing, too many, or there twice; the third entry of the list is free. */
 static void bad_ports(struct play *with)
 {
   riddlesage_port unmade = RIDDLESAGE_PORT_INIT, copy = *with->ports[0];
@@ -44,7 +44,7 @@ static void bad_ports(struct play *with)
   WANT(BAD_BUS, played(with, 3, 2, 3));
 }
 
-/* Offers and hits that are none, out of order, or of no port. */
+/* Offers and hits that are invalid, out of order, or of no port. */
 static void bad_offers_and_hits(struct play *with)
 {
   static const riddlesage_frame none[] = {
@@ -98,7 +98,7 @@ static void bad_buses(void)
   WANT_SAME(before, with.bus);
   want(with.many == 99 ? RIDDLESAGE_OK : RIDDLESAGE_QUEUE_FULL, RIDDLESAGE_OK, "refused is written", __LINE__);
 
-  /* nothing has run, and both queues have room; a third frame has none */
+  /* nothing has run, and both queues have capacity left, but not for a third frame */
   WANT(OK, riddlesage_play(with.ports, 2, NULL, 0, NULL, 0, NULL, 0, NULL));
   with.offers[0].time = with.offers[1].time = with.offers[1].port = 0;
   WANT(OK, riddlesage_play(with.ports, 2, with.offers, 2, NULL, 0, with.bus, 1, &with.many));
@@ -114,7 +114,7 @@ static const riddlesage_wire fresh = RIDDLESAGE_WIRE_INIT;
 static const riddlesage_hit at_the_start = { 0, 0, 3, 0, RIDDLESAGE_HIT_IN },
                             of_a_view = { 2, 0, 0, 1, RIDDLESAGE_HIT_VIEW };
 
-/* What a wire of two ports is stepped with. */
+/* The arguments for a bus of two ports that is stepped. */
 struct step {
   riddlesage_wire wire;
   riddlesage_hit hits[2];
@@ -126,7 +126,7 @@ static riddlesage_status stepped(struct step *with, size_t ports)
   return riddlesage_wire_step(&with->wire, with->given, ports, with->hits, 2, &with->bus, with->seen);
 }
 
-/* Wires that are none: until_rest, start, attempts and time, one beyond the greatest of each. */
+/* Invalid wires: until_rest, start, attempts and time, each one above its maximum. */
 static void no_wires(struct step *with)
 {
   static const riddlesage_wire none[] = {
@@ -137,14 +137,14 @@ static void no_wires(struct step *with)
   size_t row;
 
   for (row = 0; row < sizeof none / sizeof none[0]; row++) {
-    memcpy(&with->wire, &none[row], sizeof with->wire); /* what lies between its fields too */
+    memcpy(&with->wire, &none[row], sizeof with->wire); /* padding too */
     want(RIDDLESAGE_BAD_WIRE, stepped(with, 2), "no wire", (int)row);
     WANT_SAME(none[row], with->wire);
   }
   memcpy(&with->wire, &fresh, sizeof with->wire);
 }
 
-/* Levels and hits that are none, and hits of no port. */
+/* Invalid levels and hits, and hits of no port. */
 static void bad_steps(struct step *with)
 {
   size_t row;
@@ -171,7 +171,7 @@ static void bad_steps(struct step *with)
   WANT(BAD_KIND, stepped(with, 2));
 }
 
-/* Each with the greatest of its numbers that are a wire's. */
+/* Valid wires, each with one number at its maximum. */
 static void last_wires(void)
 {
   static const riddlesage_wire some[] = {
@@ -191,7 +191,7 @@ static void last_wires(void)
   }
 }
 
-/* Nobody sees more than he was asked for, and hits may stand in any order. */
+/* Only the requested levels are written, and hits may be in any order. */
 static void one_of_two_is_asked(void)
 {
   struct step with = { fresh, { of_a_view, at_the_start }, { 0, 0 }, { 7, 9 }, 7 };

@@ -1,13 +1,13 @@
 /*
- * Each allocation of the library is refused in turn: a call says so by its status, nothing is lost, and where none is
- * refused it succeeds. Link with -Wl,--wrap=malloc,--wrap=realloc.
+ * Each allocation of the library is refused in turn: a call must return the status for that, and lose nothing; without
+ * a refusal it must succeed. Link with -Wl,--wrap=malloc,--wrap=realloc.
  */
 #include "riddlesage.h"
 
 #include <stdio.h>
 #include <stdlib.h>
 
-/* How many allocations are given before one is refused; and whether one was. */
+/* How many allocations succeed before one is refused; and whether one was. */
 static int given;
 static bool refused;
 
@@ -33,7 +33,7 @@ void *__wrap_realloc(void *at, size_t size)
   return refuses() ? NULL : __real_realloc(at, size);
 }
 
-/* A port is made, another one in its place, used and deleted: whether all refusals are told, and no others. */
+/* Makes a port, another one in its place, uses and deletes it: whether exactly the refusals are reported. */
 static bool play(void)
 {
   static const riddlesage_frame frame = { 0x123, 0, 0, 2, { 0xaa, 0x55 } };
@@ -55,7 +55,7 @@ static bool play(void)
   return riddlesage_port_delete(port) == RIDDLESAGE_OK && well;
 }
 
-/* A port is copied: the same; and where there is no memory, the port that was there stays. */
+/* Copies a port: whether exactly the refusals are reported, and without memory the port that was there stays. */
 static bool play_copy(void)
 {
   riddlesage_port one = RIDDLESAGE_PORT_INIT, other = RIDDLESAGE_PORT_INIT;
@@ -72,7 +72,7 @@ static bool play_copy(void)
   return riddlesage_port_free(&one) == RIDDLESAGE_OK && riddlesage_port_free(&other) == RIDDLESAGE_OK && well;
 }
 
-/* A bus is run: the same; and where there is no memory, its ports are as they were. */
+/* Runs a bus: whether exactly the refusals are reported, and without memory its ports are unchanged. */
 static bool play_bus(void)
 {
   static const riddlesage_offer offers[] = { { 0, 0, { 0x123, 0, 0, 0, { 0 } } }, { 1, 1, { 0x124, 0, 0, 0, { 0 } } } };
@@ -94,7 +94,7 @@ static bool play_bus(void)
   return riddlesage_port_free(&one) == RIDDLESAGE_OK && riddlesage_port_free(&other) == RIDDLESAGE_OK && well;
 }
 
-/* A scenario is run, and a trace decoded by its text and its levels: the same. */
+/* Simulates a scenario, and decodes a trace from text and levels: whether exactly the refusals are reported. */
 static bool play_texts(void)
 {
   static const char scenario[] = "version = 1\nbits = 60\nport = [{ queue = [\"S 001 D 0\"], log = 1 }, { log = 1 }]\n";
@@ -121,7 +121,7 @@ int main(void)
     refused = false;
     given = number++;
     if (!play() || !play_copy() || !play_bus() || !play_texts()) {
-      printf("allocation %d is refused, and not told so\n", number);
+      printf("allocation %d is refused, and no call reports it\n", number);
       return EXIT_FAILURE;
     }
   } while (refused);

@@ -1,7 +1,7 @@
 /*
- * Plays rows.txt through the C library, bit time by bit time (`rows step FILE`), each on a copy of the port, or each
- * list of levels in one call (`rows run FILE`). Prints each line that does not hold, and at the end how many hold:
- * `214 of 214 lines hold`.
+ * Runs the test vectors of rows.txt on the C library: bit time by bit time (`rows step FILE`), each on a copy of the
+ * port; or each list of levels in one call (`rows run FILE`). Prints each line that does not hold, and then how many
+ * hold: `214 of 214 lines hold`.
  */
 #include "../examples/frame_text.h"
 #include "riddlesage.h"
@@ -12,7 +12,7 @@
 
 enum { LINE_ROOM = 512, MOST_TIMES = 1024 };
 
-/* A row as it is played: its port, what that drove and told in each bit time, and which event is the next to be told. */
+/* A test vector: its port, the level and event of each bit time, and the index of the next event to compare. */
 struct row {
   riddlesage_port port;
   bool in_one_call;
@@ -43,7 +43,7 @@ static void skip_quiet_times(struct row *row)
     row->told++;
 }
 
-/* The frames of a run are those that the log got in it. */
+/* The frames of a run are the entries that it added to the log. */
 static void take_frames_from_log(struct row *row, unsigned from, size_t entry)
 {
   unsigned time;
@@ -54,7 +54,7 @@ static void take_frames_from_log(struct row *row, unsigned from, size_t entry)
       riddlesage_port_entry(&row->port, entry++, &row->frames[time], &sent);
 }
 
-/* The port goes on as a copy of itself. */
+/* Replaces the port by a copy of itself. */
 static bool copy(struct row *row)
 {
   riddlesage_port other = RIDDLESAGE_PORT_INIT;
@@ -92,7 +92,7 @@ static bool see(struct row *row, const char *text)
   return true;
 }
 
-/* `told 45 received S 001 D 0`. In one call the frame is known where the log had room for it. */
+/* `told 45 received S 001 D 0`. In one call the frame is known only if the log had capacity for it. */
 static bool told(struct row *row, const char *text)
 {
   char frame[FRAME_TEXT_ROOM], wanted[LINE_ROOM];
@@ -150,7 +150,7 @@ static bool state(struct row *row, const char *text)
   return riddlesage_port_state(&row->port, &code) == RIDDLESAGE_OK && text_is(text, states[code]);
 }
 
-/* `stands active-flag 3, receiver; Error flags`: as a verdict of canhold has it */
+/* `stands active-flag 3, receiver; Error flags`: in the words of a verdict of canhold */
 static bool stands(struct row *row, const char *text)
 {
   char wanted[LINE_ROOM], place[8] = "";
@@ -248,7 +248,8 @@ static riddlesage_status hand_in(struct row *row, const char *text)
   return (text[0] == 'i' ? riddlesage_port_idle : riddlesage_port_joining)(&row->port, queue, log);
 }
 
-/* Whether a line hands something in; and behind its status, where that is not `ok`. */
+/* Whether a line makes a port, queues a frame or requests overload frames; the call follows its status, if that is not
+ * `ok`. */
 static const char *handed_in(const char *line, char refusal[LINE_ROOM])
 {
   const char *colon = strstr(line, ": ");
@@ -287,7 +288,7 @@ static bool holds(struct row *row, const char *line)
   return false;
 }
 
-/* At the end of a row every event was told. */
+/* At the end of a test vector every event has been compared. */
 static bool ends(struct row *row)
 {
   skip_quiet_times(row);

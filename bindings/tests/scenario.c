@@ -1,14 +1,14 @@
 /*
- * Runs a scenario through the C library, and prints the report that `canbit run` prints for it. The scenario comes on
- * standard input in plain lines, which tests/scenarios.py makes of a TOML document:
+ * Simulates a scenario with the C library, and prints the report that `canbit run` prints for it. The scenario comes on
+ * standard input in plain lines, to which tests/scenarios.py converts a TOML document:
  *
  *   bits N                         how many bit times
- *   port START QUEUE LOG HOLD      the next port: idle or joining, its rooms, the overload frames that it asks for
- *   offer TIME PORT FRAME          a frame, and before which bit time it is offered; times rise
- *   at TIME, in ATTEMPT OFFSET, view TIME PORT    a disturbance, in the order of docs/BUS.md
+ *   port START QUEUE LOG HOLD      the next port: idle or joining, its capacities, its requested overload frames
+ *   offer TIME PORT FRAME          a frame, and the bit time before which it is queued; times rise
+ *   at TIME, in ATTEMPT OFFSET, view TIME PORT    a bit error, in the order of docs/BUS.md
  *
- * With the word `play` the library runs the bus by one call; else each port is driven and sampled here, bit time by bit
- * time, over a riddlesage_wire.
+ * With the argument `play` the library runs the bus with one call. Otherwise each port is called here, bit time by bit
+ * time, with a riddlesage_wire.
  */
 #include "../examples/frame_text.h"
 #include "riddlesage.h"
@@ -37,7 +37,7 @@ static void demand(riddlesage_status status)
   }
 }
 
-/* Room for one item more behind so many. */
+/* Makes room for one more item. */
 static void *grown(void *items, size_t count, size_t size)
 {
   if ((count & (count + 1)) != 0)

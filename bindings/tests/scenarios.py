@@ -1,12 +1,10 @@
 #!/usr/bin/env python3
-"""Scenarios of `canbit run`: played by ports of the Python package, told to tests/scenario.c, and random ones.
+"""Simulates scenarios of `canbit run` with the Python package, converts them for scenario.c, and makes random ones.
 
-It writes one of these:
-
-    scenarios.py report < SCENARIO     the report, as `canbit run` prints it
-    scenarios.py played < SCENARIO     the same, of ports that are run by one call
-    scenarios.py plain < SCENARIO      the lines that tests/scenario.c reads
-    scenarios.py random SEED BITS      a scenario of four ports with frames and disturbances of all kinds
+    scenarios.py report < SCENARIO     prints the report of `canbit run`, stepping a Bus bit time by bit time
+    scenarios.py played < SCENARIO     prints the report of `canbit run`, running the bus with one call
+    scenarios.py plain < SCENARIO      prints the lines that tests/scenario.c reads
+    scenarios.py random SEED BITS      prints a random scenario of four ports, with frames and bit errors of all kinds
 """
 
 from __future__ import annotations
@@ -31,7 +29,7 @@ Document = dict[str, Any]
 
 
 def offers(document: Document) -> list[tuple[int, int, str]]:
-    """Time, port and frame of each offer, in their order. In version 1 all frames are offered at time 0."""
+    """Time, port and frame of each offer, in their order. In version 1 all are queued at time 0."""
     timed = document["version"] == 2
     made_of = (
         (*(offer if timed else (0, offer)), place)
@@ -54,14 +52,14 @@ def plain(document: Document) -> Iterator[str]:
 
 
 def made(table: Document) -> Port:
-    """A port of a scenario, before anything is offered to it."""
+    """A port of a scenario, before any frame is queued."""
     port = Port(len(table.get("queue", [])), table.get("log", 64), joining=table.get("join", False))
     port.hold(table.get("hold", 0))
     return port
 
 
 def bit_by_bit(document: Document, ports: list[Port]) -> bytes:
-    """The levels of a bus of these ports."""
+    """The levels of a bus of these ports, stepped bit time by bit time."""
     bus = Bus(*ports)
     for time, place, text in offers(document):
         bus.offer(place, Frame.from_text(text), time)
@@ -76,14 +74,14 @@ def bit_by_bit(document: Document, ports: list[Port]) -> bytes:
 
 
 def in_one_call(document: Document, ports: list[Port]) -> bytes:
-    """The same."""
+    """The levels of a bus of these ports, run with one call."""
     given = [(time, place, Frame.from_text(text)) for time, place, text in offers(document)]
     hits = {call: document.get(key, []) for call, key in (("hit_at", "at"), ("hit_in", "in"), ("view", "view"))}
     return play(ports, document["bits"], given, **hits).levels
 
 
 def report(document: Document, levels_of: Callable[[Document, list[Port]], bytes] = bit_by_bit) -> Iterator[str]:
-    """The lines of the report, of ports that are run so."""
+    """The lines of the report, with ports that are run in this way."""
     ports = [made(table) for table in document["port"]]
     levels = levels_of(document, ports)
     yield f"bits {document['bits']}"
@@ -95,12 +93,12 @@ def report(document: Document, levels_of: Callable[[Document, list[Port]], bytes
 
 
 def played(document: Document) -> Iterator[str]:
-    """The lines of the report, of ports that are run by one call."""
+    """The lines of the report, with ports that are run with one call."""
     return report(document, in_one_call)
 
 
 def random_frame(chance: random.Random) -> str:
-    """The text of some frame."""
+    """The text of a random frame."""
     extended, remote, dlc = chance.random() < 0.4, chance.random() < 0.2, chance.randrange(16)
     few = chance.random() < 0.5
     identifier = chance.randrange(4 if few else 1 << (29 if extended else 11))
@@ -109,7 +107,7 @@ def random_frame(chance: random.Random) -> str:
 
 
 def random_scenario(seed: int, bits: int) -> Iterator[str]:
-    """The lines of a TOML document. Disturbances are rare enough that frames pass, and come in bursts."""
+    """The lines of a random TOML document. Bit errors come in bursts, and are rare enough that frames pass."""
     chance = random.Random(seed)
     ports = 4
     busy = [time for time in range(bits) if time // 5000 % 3 != 2]
@@ -124,7 +122,7 @@ def random_scenario(seed: int, bits: int) -> Iterator[str]:
 
 
 def main() -> None:
-    """Runs one of these."""
+    """Runs the command that the first argument names."""
     parser = argparse.ArgumentParser(description=__doc__, formatter_class=argparse.RawDescriptionHelpFormatter)
     parser.add_argument("what", choices=("report", "played", "plain", "random"))
     parser.add_argument("numbers", nargs="*", type=int)

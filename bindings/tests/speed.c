@@ -1,7 +1,7 @@
 /*
- * Bit times a second of one port through the C library: each asked what it drives and handed a level (`speed step`), or
- * all of them in one call (`speed run`). The levels are those of a busy bus, recorded beforehand; the port receives.
- * Prints millions of bit times a second, the best of five rounds.
+ * Speed of one port through the C library, with a call for each level that it drives and samples (`speed step`), or
+ * with one call for all (`speed run`). The levels are those of a busy bus, recorded before; the port receives. Prints
+ * millions of bit times per second, the best of five rounds.
  */
 #include "riddlesage.h"
 

@@ -2,21 +2,21 @@
  * The golden model for simulators of Verilog with VPI, as system functions and tasks:
  *
  *   port = $riddlesage_port(waiting, joins);     a new port, a number from 0 on
- *   $riddlesage_reset(port, waiting, joins);     a new port in its place: so many frames may wait; idle, or joining
- *   $riddlesage_copy(port, from);                what another port is, in place of this one
- *   $riddlesage_offer(port, frame);              a frame of 99 bits: extended, remote, identifier, DLC, data
- *   $riddlesage_hold(port, count);               overload frames of its own, 0 to 2
- *   level = $riddlesage_drive(port);
- *   told = $riddlesage_sample(port, level);      what the bit time brought, a riddlesage_event
+ *   $riddlesage_reset(port, waiting, joins);     a new port in its place: its queue capacity; 0 idle, 1 bus integration
+ *   $riddlesage_copy(port, from);                makes it a copy of another port
+ *   $riddlesage_offer(port, frame);              queues a frame of 99 bits: extended, remote, identifier, DLC, data
+ *   $riddlesage_hold(port, count);               requests 0 to 2 overload frames
+ *   level = $riddlesage_drive(port);             the level that it drives
+ *   told = $riddlesage_sample(port, level);      passes a bit time; its event, a riddlesage_event
  *   frame = $riddlesage_frame(port);             the last frame that was sent or received
  *   tec = $riddlesage_tec(port); rec = $riddlesage_rec(port);
- *   phase = $riddlesage_phase(port);             in which it is, a riddlesage_phase
- *   $riddlesage_stands(port);                    writes where it stands: its phase, its part, and the rule there
- *   $riddlesage_tell(told, frame);               writes an event, with the frame where one was sent or received
+ *   phase = $riddlesage_phase(port);             its phase, a riddlesage_phase
+ *   $riddlesage_stands(port);                    writes its state: phase, role, and the rule that decides
+ *   $riddlesage_tell(told, frame);               writes an event, with the frame if one was sent or received
  *
- * The data of a frame are its lowest 64 bits, the first byte the highest. What the library refuses, a port that is
- * none, and an x or a z as a level or in a frame end the simulation with a message. Nothing here is proved, and nothing
- * here knows a rule of CAN.
+ * The data of a frame are its lowest 64 bits, the first byte in the highest of these. The simulation ends with a
+ * message if the library refuses a call, a port does not exist, or a level or a frame has an x or a z. Nothing here is
+ * proved, and no rule of CAN is here.
  */
 #include "riddlesage.h"
 
@@ -37,11 +37,13 @@ static void end(const char *why)
 
 static void demand(riddlesage_status status)
 {
-  if (status != RIDDLESAGE_OK)
-    end(riddlesage_status_name(status));
+  if (status == RIDDLESAGE_OK)
+    return;
+  vpi_printf("riddlesage: a call was refused: %s\n", riddlesage_status_name(status));
+  vpi_control(vpiFinish, 1);
 }
 
-/* The arguments of the call, one behind another. */
+/* The arguments of the call, in their order. */
 struct arguments {
   vpiHandle list;
 };
@@ -52,7 +54,7 @@ static struct arguments arguments(void)
   return of;
 }
 
-/* The next argument; NULL behind the last one, where the list is freed. */
+/* The next argument; NULL after the last one, when the list is freed. */
 static vpiHandle next(struct arguments *of)
 {
   vpiHandle found = of->list != NULL ? vpi_scan(of->list) : NULL;
@@ -168,7 +170,7 @@ static PLI_INT32 call_copy(PLI_BYTE8 *data)
   return 0;
 }
 
-/* So many bits of a vector, 32 at most, from this one on; none of them x or z. */
+/* `count` bits of a vector, at most 32, from bit `low` on; none of them x or z. */
 static uint32_t bits(const s_vpi_vecval *words, int low, int count)
 {
   uint32_t value = 0;
@@ -181,7 +183,7 @@ static uint32_t bits(const s_vpi_vecval *words, int low, int count)
   return value;
 }
 
-/* Whether x or z stands among so many bits of a vector, the lowest. */
+/* Whether one of the lowest `count` bits of a vector is x or z. */
 static bool is_unknown(const s_vpi_vecval *words, int count)
 {
   int place;
@@ -216,7 +218,7 @@ static riddlesage_frame frame_of(const s_vpi_vecval *words)
   return frame;
 }
 
-/* Takes the next argument, a frame; NULL, or why it is none. */
+/* Reads the next argument, a frame. Returns NULL, or why it is not a frame. */
 static const char *take_frame(struct arguments *of, riddlesage_frame *frame)
 {
   vpiHandle argument = next(of);
@@ -309,7 +311,7 @@ static PLI_INT32 call_frame(PLI_BYTE8 *data)
   return 0;
 }
 
-/* The data of a call say which counter. */
+/* The user data of the call choose the counter. */
 static char transmit_counter[] = "transmit", receive_counter[] = "receive";
 
 static PLI_INT32 call_counter(PLI_BYTE8 *data)
@@ -335,7 +337,7 @@ static PLI_INT32 call_phase(PLI_BYTE8 *data)
   return 0;
 }
 
-/* As a verdict of canhold has it: `suspend 7, sender; Suspend transmission`. */
+/* In the words of a verdict of canhold: `suspend 7, sender; Suspend transmission`. */
 static PLI_INT32 call_stands(PLI_BYTE8 *data)
 {
   struct arguments of = arguments();
@@ -354,7 +356,7 @@ static PLI_INT32 call_stands(PLI_BYTE8 *data)
   return 0;
 }
 
-/* As ` S 123 D 2 aa55`. */
+/* Writes ` S 123 D 2 aa55`. */
 static void write_frame(const riddlesage_frame *frame)
 {
   int place, bytes = frame->remote != 0 ? 0 : frame->dlc < DATA_BYTES ? frame->dlc : DATA_BYTES;

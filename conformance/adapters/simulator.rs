@@ -1,5 +1,5 @@
-//! An adapter of the conformance kit with the plain controller of `bench/machine.rs` inside: it speaks the line
-//! protocol over standard input and output. Built by rustc alone.
+//! An adapter of the conformance kit with the plain controller of `bench/machine.rs` inside. It speaks the line protocol
+//! over standard input and output. rustc builds it without cargo.
 
 #[path = "../../bench/machine.rs"]
 mod machine;
@@ -10,7 +10,7 @@ use std::fmt::Write as _;
 use std::io::{self, BufRead, Write};
 
 /// More frames than any case offers.
-const QUEUE_ROOM: usize = 256;
+const QUEUE_SIZE: usize = 256;
 
 fn frame_text(frame: &Frame) -> String {
     let direction = if frame.remote { 'R' } else { 'D' };
@@ -46,9 +46,9 @@ fn event_text(event: Event, frame: Option<&Frame>) -> String {
     word.to_string()
 }
 
-/// Plays bit times: `0` and `1` are the tester's levels, with `f` the controller sees recessive.
+/// Plays bit times. `0` and `1` are the tester's levels; with `f` the controller sees a recessive level.
 fn play(port: &mut Port, levels: &str) -> Result<String, Box<dyn Error>> {
-    let mut told = String::new();
+    let mut events = String::new();
     let mut drove = String::from("drove ");
     for (place, tester) in levels.chars().enumerate() {
         let driven = port.drive();
@@ -56,14 +56,14 @@ fn play(port: &mut Port, levels: &str) -> Result<String, Box<dyn Error>> {
             '0' => Dominant,
             '1' => driven,
             'f' => Recessive,
-            _ => return Err("a level that is none".into()),
+            _ => return Err("expected levels: 0, 1 or f".into()),
         };
         if let Some(event) = port.sample(seen) {
-            writeln!(told, "event {place} {}", event_text(event, port.controller.frame.as_ref()))?;
+            writeln!(events, "event {place} {}", event_text(event, port.controller.frame.as_ref()))?;
         }
         drove.push(if driven == Dominant { '0' } else { '1' });
     }
-    Ok(told + &drove + "\n")
+    Ok(events + &drove + "\n")
 }
 
 fn state_line(port: &Port) -> String {
@@ -80,9 +80,9 @@ fn new_port(words: &str) -> Result<Port, Box<dyn Error>> {
     let phase = match words.rsplit(' ').next() {
         Some("idle") => Phase::Idle,
         Some("joining") => Phase::Joining { row: 0 },
-        _ => return Err("a start that is none".into()),
+        _ => return Err("expected idle or joining".into()),
     };
-    Ok(Port::new(phase, QUEUE_ROOM, 0))
+    Ok(Port::new(phase, QUEUE_SIZE, 0))
 }
 
 fn answer(port: &mut Option<Port>, line: &str) -> Result<String, Box<dyn Error>> {
@@ -91,14 +91,14 @@ fn answer(port: &mut Option<Port>, line: &str) -> Result<String, Box<dyn Error>>
         *port = Some(new_port(rest)?);
         return Ok("ready\n".to_string());
     }
-    let port = port.as_mut().ok_or("no case was begun")?;
+    let port = port.as_mut().ok_or("expected a case first")?;
     match word {
         "offer" if !port.offer(Frame::parse(rest)?) => return Err("the queue is full".into()),
         "offer" => {}
         "hold" => port.controller.overloads_wanted = rest.parse()?,
         "play" => return play(port, rest),
         "end" => return Ok(state_line(port)),
-        _ => return Err("an unknown word".into()),
+        _ => return Err("unknown command".into()),
     }
     Ok(String::new())
 }

@@ -1,7 +1,7 @@
 #!/usr/bin/env python3
-"""An adapter to begin with: it speaks the line protocol, and the controller in it drives nothing yet.
+"""An adapter to start from: it speaks the line protocol. Its controller does not drive anything yet.
 
-Fill Controller with calls of your own: a library, a simulator, a bench behind a serial line.
+Fill in the methods of Controller: call a library or a simulator, or a test bench over a serial line.
 """
 
 from __future__ import annotations
@@ -10,41 +10,41 @@ import sys
 
 
 class Controller:
-    """What the conformance kit asks of a controller. Levels are 0, dominant, and 1, recessive."""
+    """What the conformance kit needs from a controller. Levels are 0, dominant, and 1, recessive."""
 
-    def __init__(self, joins: bool) -> None:
-        """A new controller: idle, or, if it joins, with eleven recessive levels yet to see."""
+    def __init__(self, joining: bool) -> None:
+        """A new controller: idle, or, if joining, waiting for eleven recessive levels."""
 
     def offer(self, frame: str) -> None:
-        """A frame to be sent, as `S 123 D 2 c3a5`. It counts from the next bit time on."""
+        """Queues a frame, such as `S 123 D 2 c3a5`. It is pending from the next bit time on."""
 
     def hold(self, overloads: int) -> None:
-        """Own overload frames that are asked for. Skip such cases by `--without hold` if yours makes none."""
+        """Requests this number of overload frames. `--without hold` skips such cases if yours sends none."""
 
     def drive(self) -> int:
-        """The level that it drives in this bit time. What it has seen before decides that."""
+        """The level that it drives in this bit time. It depends on earlier bit times only."""
         return 1
 
     def sample(self, level: int) -> str | None:
-        """The bus has this level in this bit time.
+        """Samples the level of the bus in this bit time.
 
-        Returns the event, such as `error stuff`, if there is one and your controller tells it; a controller that tells
-        none returns None always.
+        Returns the event, such as `error stuff`, or None if there is none. A controller that does not report events
+        always returns None.
         """
         return None
 
     def state(self) -> str:
-        """`active`, `passive` or `off`, and TEC and REC: `active 0 0`. Or `unknown`."""
+        """`active`, `passive` or `off` with TEC and REC, such as `active 0 0`; or `unknown`."""
         return "unknown"
 
 
 def play(controller: Controller, levels: str) -> list[str]:
-    """Plays bit times: in each the controller drives, the tester drives, and the controller sees the bus."""
+    """Plays bit times. In each one the controller drives, the tester drives, and the controller sees the bus."""
     events: list[str] = []
     drove: list[str] = []
     for place, tester in enumerate(levels):
         driven = controller.drive()
-        # with `f` it sees a recessive level whatever it drives
+        # with `f` it sees a recessive level, whatever it drives
         seen = 1 if tester == "f" else driven & int(tester)
         event = controller.sample(seen)
         if event is not None:
@@ -54,7 +54,7 @@ def play(controller: Controller, levels: str) -> list[str]:
 
 
 def answer(controller: Controller, line: str) -> tuple[Controller, list[str]]:
-    """What a line is answered by, and the controller behind it: each case has a new one."""
+    """The controller after this line, a new one for each case, and the lines to reply with."""
     word, _, rest = line.partition(" ")
     if word == "case":
         return Controller(rest.endswith(" joining")), ["ready"]
@@ -68,11 +68,11 @@ def answer(controller: Controller, line: str) -> tuple[Controller, list[str]]:
         return controller, play(controller, rest)
     if word == "end":
         return controller, [f"state {controller.state()}"]
-    return controller, ["error this line is none of the protocol"]
+    return controller, ["error unknown command"]
 
 
 def main() -> None:
-    """Answers the runner line by line."""
+    """Replies to the runner line by line."""
     print("can-kit 1 skeleton of an adapter", flush=True)
     controller = Controller(False)
     for line in sys.stdin:

@@ -1,4 +1,4 @@
-"""Makes the cases: a lower tester plays against a reference over the line protocol, and its levels are kept.
+"""Makes the cases: a lower tester plays against a reference over the line protocol, and its levels are stored.
 
-What a controller does is never worked out here: where the tester's levels depend on it, the reference is asked.
+The generator never computes what a controller does: if the tester's levels depend on that, it asks the reference.
 """

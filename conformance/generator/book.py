@@ -1,4 +1,4 @@
-"""The book of families: what each makes its cases with, and the cases made."""
+"""The register of families: the function that makes the cases of each, and the cases made."""
 
 from __future__ import annotations
 
@@ -17,7 +17,7 @@ ABOUT: dict[str, str] = {}
 
 
 def family(name: str, about: str) -> Callable[[Maker], Maker]:
-    """Enters the maker of a family, with one line on how its levels are made."""
+    """Registers the maker of a family, with one line on how its levels are made."""
 
     def enter(maker: Maker) -> Maker:
         FAMILIES[name] = maker
@@ -38,7 +38,7 @@ class Book:
         self._reference = reference
 
     def rows(self, standard: Sequence[Row], more: Sequence[Row]) -> list[Row]:
-        """The rows of which cases are made: those of the standard set, and in the long set more."""
+        """The rows from which cases are made: those of the standard set, and more in the long set."""
         return [*standard, *(more if self.is_long else ())]
 
     @contextlib.contextmanager

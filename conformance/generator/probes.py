@@ -1,7 +1,8 @@
-"""Probes: they show a counter of the controller by driven levels alone.
+"""Probes: they show a counter of the controller through driven levels alone.
 
-The kind of a flag, active or passive, and the suspend of a sender tell whether a counter is at its limit. A probe
-brings the counter to the limit by as many errors as the reference needs, and so any other value before it shows.
+The kind of an error flag, active or passive, and suspend transmission show whether a counter has reached its limit. A
+probe causes the number of errors that takes the reference's counter to the limit, so a controller with another value
+before the probe differs.
 """
 
 from __future__ import annotations
@@ -11,25 +12,25 @@ from kit.frames import Frame
 from generator.scene import Scene
 
 PASSIVE_LIMIT = 128
-# the first dominant level behind a receiver's flag, and each eighth
+# dominant bits after a flag: every eighth of them counts
 RUN = 8
 PROBE_FRAME = "S 555 R 0"
 LONGEST_RUN = 14
 
 
 def raise_rec(scene: Scene, goal: int) -> None:
-    """Errors of an idle controller as a receiver until the reference's REC is the goal."""
+    """Receive errors of an idle controller, until the reference's REC is the goal."""
     while scene.rec < goal:
         missing = goal - scene.rec
         runs = min((missing - 1 - RUN) // RUN, LONGEST_RUN) if missing > RUN else -1
         scene.stuff_error()
-        scene.behind_flag(RUN * runs if runs > 0 else 0)
+        scene.after_flag(RUN * runs if runs > 0 else 0)
     if scene.rec != goal:
-        raise ValueError(f"{scene.case.name}: a REC of {goal} was not met")
+        raise ValueError(f"{scene.case.name}: the reference did not reach a REC of {goal}")
 
 
 def probe_rec(scene: Scene) -> None:
-    """Shows REC, of an idle controller whose TEC is below 128: at 127 a flag is active, the next one passive."""
+    """Shows REC of an idle controller whose TEC is below 128: at 127 one flag is active, the next one passive."""
     scene.rest(1, "probe of REC")
     raise_rec(scene, PASSIVE_LIMIT - 1)
     scene.stuff_error()
@@ -40,17 +41,17 @@ def probe_rec(scene: Scene) -> None:
 
 
 def break_delimiter(scene: Scene, frame: str, dominant: int) -> None:
-    """The controller sends the frame: its CRC delimiter is dominant, and so many levels behind its flag."""
+    """The controller sends the frame. Its CRC delimiter is dominant, and so is this number of bits after its flag."""
     stuffed = Frame.parse(frame).wire().stuffed
     scene.sending(frame, stuffed)
     scene.play("0", "the CRC delimiter dominant")
-    scene.behind_flag(dominant)
+    scene.after_flag(dominant)
 
 
 def raise_tec(scene: Scene, goal: int, frame: str = PROBE_FRAME) -> None:
-    """Errors in a frame that the controller is about to send, until the reference's TEC is the goal.
+    """Errors in a frame that the controller is about to send, until the reference's TEC reaches the goal.
 
-    Or it is the next above that 8 at a time reach. The frame still waits behind it.
+    TEC rises in steps of 8, so it may end above the goal. The frame is still pending afterwards.
     """
     while scene.tec < goal:
         missing = goal - scene.tec
@@ -60,7 +61,7 @@ def raise_tec(scene: Scene, goal: int, frame: str = PROBE_FRAME) -> None:
 
 
 def probe_tec(scene: Scene, frame: str = PROBE_FRAME) -> None:
-    """Shows TEC, of an idle controller at which nothing waits: frames are sent until suspend is missing."""
+    """Shows TEC of an idle controller without pending frames: frames are sent until one has no suspend transmission."""
     scene.rest(2, "probe of TEC")
     tec = scene.tec
     missing = PASSIVE_LIMIT - tec
@@ -71,7 +72,7 @@ def probe_tec(scene: Scene, frame: str = PROBE_FRAME) -> None:
 
 
 def finish_tec_probe(scene: Scene, frame: str) -> None:
-    """Frames that wait are sent, until one begins directly behind an intermission."""
+    """Pending frames are sent, until one begins right after an intermission."""
     while True:
         scene.wait()
         scene.sent(frame)

@@ -1,7 +1,7 @@
-"""A scene: one case while it is made.
+"""A scene: a case under construction.
 
-The tester's levels are played to the reference as they are added, so that later ones can follow what the controller
-did.
+The tester's levels are played to the reference when they are added, so that later ones can depend on what the
+controller did.
 """
 
 from __future__ import annotations
@@ -12,14 +12,19 @@ from kit.adapter import MOST_LEVELS, Adapter
 from kit.documents import NEEDS, Case, Event, State, Transcript
 from kit.frames import Frame, Wire
 
-# the frame behind whose start others are offered, so that a slow controller keeps up
+# others are offered after the start of this frame, so that a slow controller keeps up
 ANCHOR = Frame.parse("S 2aa R 0")
 OFFER_PLACE = 7
 LONGEST_WAIT = 2000
 
 
+def dominant_bits(count: int) -> str:
+    """The number in words, for purposes and comments."""
+    return f"{count} dominant bit{'' if count == 1 else 's'}"
+
+
 class Scene:
-    """The case so far, and the controller of the reference that plays it."""
+    """The case so far, and the reference's controller that plays it."""
 
     def __init__(self, reference: Adapter, family: str, suffix: str, purpose: str, start: str = "idle") -> None:
         self.case = Case(f"{family}-{suffix}", family, [], purpose, start)
@@ -30,29 +35,29 @@ class Scene:
 
     @property
     def time(self) -> int:
-        """How many bit times have been played."""
+        """The number of bit times played."""
         return len(self.drove)
 
-    # what is handed to the controller
+    # frames and requests for the controller
 
     def offer(self, frame: str) -> None:
-        """The controller is offered a frame."""
+        """Offers the controller a frame."""
         self._resume()
         self.case.offers.append((self.time, frame))
         self._reference.offer(frame)
 
-    def hold(self, wish: int) -> None:
-        """The controller is asked for so many overload frames."""
+    def hold(self, overloads: int) -> None:
+        """Requests this number of overload frames from the controller."""
         self._resume()
-        self.case.holds.append((self.time, wish))
-        self._reference.hold(wish)
+        self.case.holds.append((self.time, overloads))
+        self._reference.hold(overloads)
 
     # what the tester drives
 
     def play(self, levels: str, comment: str = "") -> str:
         """Adds levels of the tester, `f` for a forced bit time, and returns what the controller drove.
 
-        With a comment they begin a string of their own.
+        With a comment they begin a new string.
         """
         if not levels:
             return ""
@@ -84,11 +89,11 @@ class Scene:
     # what is asked of the reference
 
     def state(self) -> State:
-        """Where the controller is now. The reference plays the scene again before it goes on."""
+        """The controller's state and counters now. The reference plays the scene again before it goes on."""
         self._resume()
         state = self._reference.end()
         if state is None:
-            raise ValueError("the reference does not tell its counters")
+            raise ValueError("the reference does not report its counters: its reply to `end` was `state unknown`")
         self._is_playing = False
         return state
 
@@ -98,7 +103,7 @@ class Scene:
         self._is_playing = True
         self._reference.begin(self.case.name, self.case.start)
         handed: list[tuple[int, str, object]] = [(time, "offer", frame) for time, frame in self.case.offers]
-        handed += [(time, "hold", wish) for time, wish in self.case.holds]
+        handed += [(time, "hold", overloads) for time, overloads in self.case.holds]
         levels = list(self.case.levels)
         for time in self.case.forced:
             levels[time] = "f"
@@ -130,16 +135,16 @@ class Scene:
         self,
         frame: str,
         offers: Sequence[str] = (),
-        upto: int | None = None,
+        before: int | None = None,
         wire: Wire | None = None,
         hold: int | None = None,
     ) -> Wire:
-        """The tester sends a frame, the ACK slot recessive, or its levels before the place `upto`.
+        """The tester sends a frame with a recessive ACK slot, or only its levels before a place.
 
-        Frames are offered, or overload frames asked for, in its eighth level.
+        In its eighth bit, frames are offered and overload frames requested.
         """
         wire = wire or Frame.parse(frame).wire()
-        levels = wire.levels[:upto]
+        levels = wire.levels[:before]
         self.play(levels[:OFFER_PLACE], f"sends {frame}")
         for other in offers:
             self.offer(other)
@@ -149,14 +154,14 @@ class Scene:
         return wire
 
     def anchor(self, *offers: str) -> None:
-        """A frame of the tester and its intermission; the frames that are offered in it begin behind."""
+        """A frame of the tester and its intermission. The frames that are offered in it follow."""
         self.receive(ANCHOR.text(), offers)
         self.rest(3, "intermission")
 
     # frames of the controller
 
     def waiting(self) -> list[str]:
-        """The frames that were offered and not sent yet."""
+        """The pending frames: offered, and not sent yet."""
         waiting = [frame for _, frame in self.case.offers]
         for _, event in self.events:
             if event.startswith("sent "):
@@ -164,20 +169,20 @@ class Scene:
         return waiting
 
     def wait(self, comment: str = "waits for the start of a frame") -> None:
-        """Recessive levels until the controller would begin a frame, without the level in which it does."""
+        """Recessive levels before the bit time in which the controller begins a frame."""
         if not self.begins(comment):
-            raise ValueError(f"{self.case.name}: no frame begins")
+            raise ValueError(f"{self.case.name}: the controller begins no frame")
 
     def begins(self, comment: str = "waits for the start of a frame") -> bool:
-        """Recessive levels until the controller would drive a dominant one.
+        """Recessive levels before the bit time in which the controller drives a dominant one.
 
-        False where it drives none as long as bus off lasts, or no frame waits any more.
+        False if it drives none for as long as bus-off lasts, or if no frame is pending any more.
         """
         self._resume()
         for waited in range(LONGEST_WAIT):
             driven, events = self._reference.play("1")
             if driven == "0":
-                # that bit time belongs to the frame: it is played anew
+                # that bit time belongs to the frame: it is played again
                 self._reference.end()
                 self._is_playing = False
                 return True
@@ -188,50 +193,50 @@ class Scene:
                 return False
         return False
 
-    def sending(self, frame: str, upto: int | None = None, comment: str = "") -> Wire:
-        """The controller sends this frame from now on: the tester listens, and acknowledges, up to a place."""
+    def sending(self, frame: str, before: int | None = None, comment: str = "") -> Wire:
+        """The controller sends this frame from now on. The tester listens and acknowledges, until before a place."""
         wire = Frame.parse(frame).wire()
         slot = wire.place("ack")
-        levels = ("1" * slot + "0" + "1" * 8)[:upto]
+        levels = ("1" * slot + "0" + "1" * 8)[:before]
         driven = self.play(levels, comment or f"listens to {frame}")
         if driven.startswith("1"):
-            raise ValueError(f"{self.case.name}: {frame} does not begin")
+            raise ValueError(f"{self.case.name}: the controller does not begin {frame}")
         return wire
 
     def wins(self, frame: str, against: str) -> None:
-        """The controller sends this frame from now on, and wins against one of the tester, which acknowledges it."""
+        """The controller sends this frame from now on, and wins arbitration against the tester, which acknowledges."""
         own, other = Frame.parse(frame).wire(), Frame.parse(against).wire()
         differ = next(place for place, (a, b) in enumerate(zip(own.levels, other.levels)) if a != b)
-        self.play(other.levels[: differ + 1], f"sends {against}, and loses")
+        self.play(other.levels[: differ + 1], f"sends {against} and loses")
         self.play("1" * (own.place("ack") - differ - 1) + "0" + "1" * 8, "listens")
 
     def sent(self, frame: str) -> None:
-        """The controller sends this frame whole, with its intermission."""
+        """The controller sends this whole frame; intermission follows."""
         self.sending(frame)
         if (self.time - 1, f"sent {frame}") not in self.events:
-            raise ValueError(f"{self.case.name}: {frame} is not sent")
+            raise ValueError(f"{self.case.name}: the controller does not report {frame} as sent")
         self.rest(3)
 
     # errors
 
     def stuff_error(self) -> None:
-        """Six dominant levels to an idle controller."""
+        """Six dominant bits while the controller is idle."""
         self.play("000000", "a stuff error")
 
     def recover(self, comment: str = "flag, delimiter, intermission") -> None:
-        """Recessive levels for a flag of six levels, a delimiter and an intermission."""
+        """Recessive levels for a flag of six bits, a delimiter and an intermission."""
         self.rest(6 + 8 + 3, comment)
 
-    def behind_flag(self, dominant: int) -> None:
-        """A flag of six levels, so many dominant levels behind it, a delimiter and an intermission."""
+    def after_flag(self, dominant: int) -> None:
+        """A flag of six bits, this number of dominant bits after it, a delimiter and an intermission."""
         self.rest(6, "the flag")
-        self.play("0" * dominant, f"{dominant} dominant levels behind the flag" if dominant else "")
+        self.play("0" * dominant, f"{dominant_bits(dominant)} after the flag" if dominant else "")
         self.rest(8 + 3, "delimiter, intermission")
 
     # the whole case
 
     def needed(self) -> list[str]:
-        """What a bench must be able to do."""
+        """What a test bench must be able to do."""
         needs = set()
         if self.case.forced:
             needs.add("forced")

@@ -1,1 +1,1 @@
-"""What the parts of the conformance kit share: frames, documents, the line protocol, verdicts."""
+"""The shared modules of the conformance kit: frames, documents, the line protocol, verdicts."""

@@ -1,4 +1,4 @@
-"""Talks with an adapter, a program that has the controller under test inside or behind it, in lines."""
+"""Speaks the line protocol with an adapter, a program with the controller under test inside or connected to it."""
 
 from __future__ import annotations
 
@@ -29,26 +29,26 @@ class Skip(Exception):
     """The adapter does not play the case. The reason is the exception's text."""
 
 
-def _is_other(line: bytes) -> Void:
-    """The answer is another than due. The reason shows the line, its first bytes where it is long."""
+def _unexpected(line: bytes) -> Void:
+    """Makes the case void: an unexpected reply. The reason shows the line, or its first bytes if it is long."""
     text = ascii(line[:MOST_SHOWN].decode("latin-1"))
     return Void(f"protocol: {text}" + (" .." if len(line) > MOST_SHOWN else ""))
 
 
 def _is_number(word: str) -> bool:
-    """Whether it is a number that an adapter may answer: digits, and no more than any of its answers needs."""
+    """Whether it is a number that an adapter may reply with: digits, and no more than any reply needs."""
     return word.isdigit() and len(word) <= MOST_DIGITS
 
 
 class Adapter:
     """A running adapter.
 
-    After a Void it has to be closed, and another one started. A carriage return before the end of a line that it writes
-    is passed over.
+    After a Void it has to be closed, and another one started. A carriage return before the line ends of its output is
+    ignored.
     """
 
     def __init__(self, command: Sequence[str], errors: IO[str] | None = None) -> None:
-        """Starts it, in a session of its own, so that what it starts can be ended with it.
+        """Starts it in a session of its own, so that it can be ended together with all that it starts.
 
         Its standard error is the runner's, or goes to a file.
         """
@@ -70,13 +70,13 @@ class Adapter:
         line = self._read_line(time.monotonic() + GREETING_SECONDS)
         words = line.split(" ", 2)
         if words[:2] != ["can-kit", "1"] or len(words) != 3:
-            raise _is_other(line.encode())
+            raise _unexpected(line.encode())
         return words[2]
 
     def _read_line(self, deadline: float) -> str:
         while b"\n" not in self._pending:
             if len(self._pending) > LONGEST_LINE:
-                raise _is_other(self._pending)
+                raise _unexpected(self._pending)
             if not self._selector.select(max(0.0, deadline - time.monotonic())):
                 raise Void("time-out")
             read = os.read(self._output, 65536)
@@ -87,7 +87,7 @@ class Adapter:
         if line.endswith(b"\r"):
             line = line[:-1]
         if len(line) >= LONGEST_LINE or not line.isascii():
-            raise _is_other(line)
+            raise _unexpected(line)
         text = line.decode("ascii")
         if text.startswith("error ") or text == "error":
             raise Void(text)
@@ -102,7 +102,7 @@ class Adapter:
             raise self._has_ended() from None
 
     def _has_ended(self) -> Void:
-        """It has ended, or closed its output; with its status, or the signal that ended it."""
+        """Makes the case void: the adapter has ended or closed its output. The reason has its status or signal."""
         try:
             status = self._process.wait(timeout=ENDING_SECONDS)
         except subprocess.TimeoutExpired:
@@ -110,24 +110,24 @@ class Adapter:
         return Void(f"ended, status {status}" if status >= 0 else f"ended, signal {-status}")
 
     def begin(self, name: str, start: str) -> None:
-        """A new controller for this case. Raises Skip where the adapter does not play it."""
+        """Has it begin a case with a new controller. Raises Skip if the adapter does not play the case."""
         self._write_line(f"case {name} {start}")
         answer = self._read_line(time.monotonic() + ANSWER_SECONDS)
         if answer.startswith("skip "):
             raise Skip(answer[len("skip ") :])
         if answer != "ready":
-            raise _is_other(answer.encode())
+            raise _unexpected(answer.encode())
 
     def offer(self, frame: str) -> None:
         """Offers the controller a frame."""
         self._write_line(f"offer {frame}")
 
-    def hold(self, wish: int) -> None:
-        """Asks the controller for so many overload frames."""
-        self._write_line(f"hold {wish}")
+    def hold(self, overloads: int) -> None:
+        """Requests this number of overload frames from the controller."""
+        self._write_line(f"hold {overloads}")
 
     def play(self, levels: str) -> tuple[str, list[Event]]:
-        """Plays 1 to 4096 levels of `0`, `1` and `f`: what was driven, and the events by their place."""
+        """Plays 1 to 4096 levels of `0`, `1` and `f`. Returns what was driven, and the events with their indices."""
         self._write_line(f"play {levels}")
         deadline = time.monotonic() + ANSWER_SECONDS + SECONDS_A_LEVEL * len(levels)
         events: list[Event] = []
@@ -139,14 +139,14 @@ class Adapter:
             place, _, event = rest.partition(" ")
             last = events[-1][0] if events else -1
             if not _is_number(place) or not last < int(place) < len(levels) or not is_event(event):
-                raise _is_other(line.encode())
+                raise _unexpected(line.encode())
             events.append((int(place), event))
         if word != "drove" or len(rest) != len(levels) or rest.strip("01"):
-            raise _is_other(line.encode())
+            raise _unexpected(line.encode())
         return rest, events
 
     def end(self) -> State | None:
-        """The state behind the last bit time; None where the adapter does not know it."""
+        """The state after the last bit time; None if the adapter does not know it."""
         self._write_line("end")
         line = self._read_line(time.monotonic() + ANSWER_SECONDS)
         words = line.split(" ")
@@ -154,11 +154,11 @@ class Adapter:
             return None
         good = len(words) == 4 and words[0] == "state" and words[1] in ("active", "passive", "off")
         if not good or not (_is_number(words[2]) and _is_number(words[3])):
-            raise _is_other(line.encode())
+            raise _unexpected(line.encode())
         return words[1], int(words[2]), int(words[3])
 
     def close(self) -> None:
-        """Asks the adapter to end, and ends it where it does not."""
+        """Asks the adapter to end, and kills it if it does not."""
         try:
             self._write_line("quit")
         except Void:
@@ -177,7 +177,7 @@ class Adapter:
         self._process.stdout.close()
 
     def _kill(self) -> None:
-        """Ends it, and what it has started and that hangs as it does: a simulator behind a script, say."""
+        """Kills it together with all that it has started, such as a simulator that a script runs."""
         try:
             os.killpg(self._process.pid, signal.SIGKILL)
         except ProcessLookupError:

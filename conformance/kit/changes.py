@@ -1,7 +1,7 @@
-"""Mechanical changes of C sources, one at a time.
+"""Generated mutations of C sources, one at a time.
 
-Each number is made one more and one less, each comparison, operator and level turned, each statement left out. They
-know nothing of CAN, and so try the cases without an opinion.
+Each number is increased and decreased by one, each comparison, operator and level replaced by its opposite, and each
+statement left out. These operators know nothing of CAN, so nobody has chosen the mutations with the cases in mind.
 """
 
 from __future__ import annotations
@@ -21,14 +21,14 @@ _TURNED = (
     *((r"\bDOMINANT\b", "RECESSIVE"), (r"\bRECESSIVE\b", "DOMINANT")),
     *((r"\bERROR_BIT\b", "ERROR_FORM"), (r"\bERROR_FORM\b", "ERROR_BIT")),
 )
-# of a definition's first line, its name
+# the first line of a function definition, with its name
 _FUNCTION = re.compile(r"[a-z][\w *]*?(\w+)\(")
 _DECLARATION = re.compile(r"(return|break|static|const|enum|bool|unsigned|uint|struct|for|case)\b")
 
 
 @dataclass(frozen=True)
 class Change:
-    """One line of a source, and what comes in its place. Changes that read alike are numbered."""
+    """One line of a source, and what replaces it. Changes with the same text are numbered."""
 
     path: str
     function: str
@@ -38,16 +38,16 @@ class Change:
     number: int = 1
 
     def applied(self, texts: dict[str, str]) -> dict[str, str]:
-        """The sources with the change in them."""
+        """The sources with the change."""
         lines = texts[self.path].split("\n")
         lines[self.line] = self.new
         return {**texts, self.path: "\n".join(lines)}
 
     def text(self) -> str:
-        """Names the change, whatever lines stand before it."""
-        where = os.path.basename(self.path) + (f", {self.function}" if self.function else "")
+        """The change as text, which does not depend on the number of its line."""
+        place = os.path.basename(self.path) + (f", {self.function}" if self.function else "")
         number = f" ({self.number})" if self.number > 1 else ""
-        return f"{where}: {self.old.strip()} => {self.new.strip()}{number}"
+        return f"{place}: {self.old.strip()} => {self.new.strip()}{number}"
 
 
 def _variants(line: str) -> Iterator[str]:

@@ -27,10 +27,10 @@ def _level_difference(drove: str, expected: str) -> Difference | None:
 
 
 def _event_difference(events: Sequence[Event], expected: Sequence[Event]) -> Difference | None:
-    told, due = dict(events), dict(expected)
-    for time in sorted(set(told) | set(due)):
-        if told.get(time) != due.get(time):
-            text = f"told {told.get(time, 'nothing')} not {due.get(time, 'nothing')}"
+    reported, due = dict(events), dict(expected)
+    for time in sorted(set(reported) | set(due)):
+        if reported.get(time) != due.get(time):
+            text = f"told {reported.get(time, 'nothing')} not {due.get(time, 'nothing')}"
             return time, EVENT, text
     return None
 
@@ -53,7 +53,7 @@ def _state_text(state: State) -> str:
 
 
 def differences(given: Transcript, expected: Transcript) -> list[Difference]:
-    """The first difference in each of levels, events, counters and end that both tell, the first one first."""
+    """The first difference in each of levels, events, counters and end, if both have it; the earliest one first."""
     found = [_level_difference(given.drove, expected.drove)]
     if given.events is not None:
         found.append(_event_difference(given.events, expected.events or []))

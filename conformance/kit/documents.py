@@ -1,4 +1,4 @@
-"""Kit documents: cases and transcripts, how they are read and written."""
+"""Reads and writes kit documents, which have cases and transcripts."""
 
 from __future__ import annotations
 
@@ -48,16 +48,53 @@ Event = Tuple[int, str]
 State = Tuple[str, int, int]
 
 
+# what a field must be; `[]` stands for an element of a list
+_RULES = {
+    "toml": "must be a TOML document",
+    "key": "unknown field: only case and transcript are known",
+    "case": f"must be at most {MOST_CASES} tables",
+    "transcript": f"must be at most {MOST_CASES} tables",
+    "": "must be a table",
+    ".key": "unknown field",
+    ".version": "must be 1",
+    ".family": "must be 1 to 40 of a to z, 0 to 9 and hyphen",
+    ".name": "must begin with the family and a hyphen, have at most 80 of a to z, 0 to 9 and hyphen, and be new",
+    ".purpose": "must be one line of at most 200 bytes",
+    ".start": "must be idle or joining",
+    ".needs": f"must be those of {', '.join(NEEDS)} that the case needs, in this order",
+    ".choices": f"must be some of {', '.join(CHOICES)}",
+    ".bits": f"must be 1 to {MOST_BITS}",
+    ".tester": "must be 1 to 4096 strings that have `bits` levels together",
+    ".tester[]": "must be levels, such as 0101 1*9",
+    ".offers": "must be at most 256 of [bit time, frame]",
+    ".offers[]": "must be a bit time of the case, not before the last one, and a frame such as S 123 D 1 c3",
+    ".holds": "must be at most 256 of [bit time, number]",
+    ".holds[]": "must be a bit time of the case, not before the last one, and 0 to 2",
+    ".forced": "must be at most 4096 bit times",
+    ".forced[]": "must be a bit time of the case after the last one, in which the tester is recessive",
+    ".case": "must be the name of a case, and no earlier transcript may have it",
+    ".drove": f"must be 1 to 4096 strings that have at most {MOST_BITS} levels together",
+    ".drove[]": "must be levels, such as 0101 1*9",
+    ".events": f"must be at most {MOST_BITS} of [bit time, event]",
+    ".events[]": "must be a bit time after the last one, and an event such as error stuff",
+    ".counters": f"must be at most {MOST_BITS} of [bit time, TEC, REC]",
+    ".counters[]": "must be a bit time after the last one, and two numbers of at most 300",
+    ".end": "must be active, passive or off, and two numbers of at most 300",
+}
+
+
 class DocumentFault(Exception):
-    """The first field of a document that is wrong, as `P2 case[3].bits`."""
+    """The first wrong field of a document, such as `P2 case[3].bits: must be 1 to 100000`."""
 
     def __init__(self, place: str) -> None:
-        super().__init__(f"P2 {place}")
+        self.place = place
+        field_name = re.sub(r"^(?:case|transcript)\[\d+\]|(?<=\[)\d+(?=\])", "", place)
+        super().__init__(f"P2 {place}: {_RULES[field_name]}")
 
 
 @dataclass
 class Case:
-    """One test: what the tester drives, and what the controller is handed."""
+    """A test case: what the tester drives, and the frames and requests that the controller gets."""
 
     name: str
     family: str
@@ -78,7 +115,7 @@ class Case:
 
 @dataclass
 class Transcript:
-    """What a controller did in a case. What is None was not told."""
+    """What a controller did in a case. What it did not report is None."""
 
     case: str
     drove: str
@@ -96,7 +133,7 @@ def is_frame(text: object) -> bool:
 
 
 def is_event(text: object) -> bool:
-    """Whether it is an event as an adapter tells it."""
+    """Whether it is the text of an event."""
     if not isinstance(text, str):
         return False
     word, _, rest = text.partition(" ")
@@ -150,7 +187,7 @@ def _levels_of(strings: object, place: str, most: int) -> list[tuple[str, str]]:
 def _rows(
     table: dict[str, Any], key: str, place: str, most: int, fits: Callable[[list[Any]], bool], strictly: bool
 ) -> list[Any]:
-    """Rows of a list whose first element is a time below the case's bits; the times don't fall."""
+    """The rows of a list, whose first elements are times. They do not fall, or, strictly, they rise."""
     rows = _list_of(table.get(key, []), f"{place}.{key}", 0, most)
     last = -1 if strictly else 0
     for index, row in enumerate(rows):
@@ -227,9 +264,9 @@ def _read_transcript(value: object, place: str, names: dict[str, Case], seen: di
 
 
 def read_document(text: str, known: Iterable[Case] = ()) -> tuple[list[Case], list[Transcript]]:
-    """The cases and transcripts of a document; transcripts may also name the cases that are known.
+    """The cases and transcripts of a document. Transcripts may also name the cases that are known.
 
-    Raises DocumentFault for the first field that is wrong.
+    Raises DocumentFault with the first wrong field.
     """
     try:
         document = loads(text)
@@ -268,7 +305,7 @@ def _quoted(text: str) -> str:
 
 
 def write_case(case: Case) -> str:
-    """The case as a table of a document, each string of levels with its place and comment."""
+    """The case as a table of a document. Strings of levels have their bit time and comment."""
     lines = ["[[case]]", "version = 1", f"name = {_quoted(case.name)}", f"family = {_quoted(case.family)}"]
     if case.purpose:
         lines.append(f"purpose = {_quoted(case.purpose)}")
@@ -286,14 +323,14 @@ def write_case(case: Case) -> str:
     if case.offers:
         lines += _long_array("offers", [f"[{time}, {_quoted(frame)}]" for time, frame in case.offers])
     if case.holds:
-        lines.append(f"holds = {_array(f'[{time}, {wish}]' for time, wish in case.holds)}")
+        lines.append(f"holds = {_array(f'[{time}, {overloads}]' for time, overloads in case.holds)}")
     if case.forced:
         lines.append(f"forced = {_array(map(str, case.forced))}")
     return "\n".join(lines) + "\n"
 
 
 def write_transcript(transcript: Transcript) -> str:
-    """The transcript as a table of a document; what was not told is left out."""
+    """The transcript as a table of a document. What was not reported is left out."""
     lines = ["[[transcript]]", "version = 1", f"case = {_quoted(transcript.case)}"]
     lines.append(f"drove = [{_quoted(write_levels(transcript.drove))}]")
     if transcript.events is not None:

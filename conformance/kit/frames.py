@@ -12,7 +12,7 @@ _CRC_LEVELS = 15
 
 @dataclass(frozen=True)
 class Frame:
-    """A data or remote frame. The data are as many bytes as the DLC means."""
+    """A data or remote frame. The number of data bytes is the one that the DLC means."""
 
     extended: bool
     identifier: int
@@ -22,34 +22,34 @@ class Frame:
 
     @staticmethod
     def parse(text: str) -> Frame:
-        """The frame of this text. Raises ValueError where it is none."""
+        """The frame of this text. Raises ValueError if the text is none."""
         match = _TEXT.fullmatch(text)
         if match is None:
-            raise ValueError(f"no frame text: {text!r}")
+            raise ValueError(f"not the text of a frame: {text!r}")
         standard, extended, direction, dlc, digits = match.groups()
         data = bytes.fromhex(digits or "")
         frame = Frame(standard is None, int(standard or extended, 16), direction == "R", int(dlc), data)
         if len(data) != frame.data_bytes():
-            raise ValueError(f"the data do not fit the DLC: {text!r}")
+            raise ValueError(f"the number of data bytes does not fit the DLC: {text!r}")
         return frame
 
     def data_bytes(self) -> int:
-        """How many bytes of data it has on the wire."""
+        """The number of data bytes on the wire."""
         return 0 if self.remote else min(self.dlc, 8)
 
     def text(self) -> str:
-        """Its text, as docs/FORMATS.md has it."""
+        """Its text, as in docs/FORMATS.md."""
         head = f"E {self.identifier:08x}" if self.extended else f"S {self.identifier:03x}"
         data = f" {self.data.hex()}" if self.data else ""
         return f"{head} {'R' if self.remote else 'D'} {self.dlc}{data}"
 
-    def wire(self, turned: str = "", **levels: str) -> Wire:
-        """Its levels, of which `srr`, `r1`, `r0` may be given another.
+    def wire(self, inverted: str = "", **levels: str) -> Wire:
+        """Its levels. `srr`, `r1` and `r0` may be given other values.
 
-        `turned` names a part, as `crc-14` or `data-3`, of which that place is turned around behind the computing of the
-        check sequence.
+        `inverted` names one bit, such as `crc-14` or `data-3`. It is inverted after the CRC sequence is computed, and
+        before bit stuffing.
         """
-        return Wire(self, turned, levels)
+        return Wire(self, inverted, levels)
 
 
 def _bits(number: int, count: int) -> str:
@@ -67,7 +67,7 @@ def _crc(levels: str) -> str:
 
 
 def _parts(frame: Frame, given: dict[str, str]) -> list[tuple[str, str]]:
-    """The parts of the head in their order, each with its levels."""
+    """The parts of the head in order, each with its levels."""
     remote = "1" if frame.remote else "0"
     if frame.extended:
         parts = [("sof", "0"), ("base", _bits(frame.identifier >> 18, 11)), ("srr", given.get("srr", "1"))]
@@ -81,13 +81,13 @@ def _parts(frame: Frame, given: dict[str, str]) -> list[tuple[str, str]]:
 
 @dataclass
 class Wire:
-    """The levels of a frame from its start on, the ACK slot recessive, and where each part stands.
+    """The levels of a frame with a recessive ACK slot, and the place of each part.
 
-    `places` has for each part its places in `levels`, stuff bits left out; `stuff` has those of the stuff bits.
+    `places` has the indices of each part in `levels`, without stuff bits; `stuff` has those of the stuff bits.
     """
 
     frame: Frame
-    turned: str
+    inverted: str
     given: dict[str, str]
     levels: str = ""
     stuffed: int = 0
@@ -101,7 +101,7 @@ class Wire:
         for name, levels in parts:
             self.places[name] = []
             for index, level in enumerate(levels):
-                if self.turned == f"{name}-{index}":
+                if self.inverted == f"{name}-{index}":
                     level = opposite(level)
                 self.places[name].append(len(out))
                 out.append(level)
@@ -118,7 +118,7 @@ class Wire:
         out.append(opposite(out[-1]))
 
     def place(self, name: str) -> int:
-        """The place of a part, as `ack`, or of one of its levels, counted from 1: `eof 6`."""
+        """The place of a part, such as `ack`, or of one of its bits, counted from 1: `eof 6`."""
         part, _, index = name.partition(" ")
         return self.places[part][int(index) - 1 if index else 0]
 

@@ -1,4 +1,4 @@
-"""Levels as text: `0` dominant, `1` recessive; in documents runs stand as `L*N`."""
+"""Levels as text: `0` dominant, `1` recessive; in documents a run of N levels L is `L*N`."""
 
 from __future__ import annotations
 
@@ -10,17 +10,17 @@ LONGEST_RUN = 100_000
 
 
 def read_levels(text: str) -> str:
-    """The levels of a string of tokens. Raises ValueError where it is none."""
+    """The levels of a string of tokens. Raises ValueError if the text is none."""
     levels = []
     for token in text.split(" "):
         if not token:
             continue
         match = _TOKEN.fullmatch(token)
         if match is None:
-            raise ValueError(f"no levels: {token!r}")
+            raise ValueError(f"not levels: {token!r}")
         level, times = match.groups()
         if times is not None and int(times) > LONGEST_RUN:
-            raise ValueError(f"a run that is too long: {token!r}")
+            raise ValueError(f"run too long: {token!r}")
         levels.append(token if times is None else level * int(times))
     if not levels:
         raise ValueError("no levels")
@@ -28,6 +28,6 @@ def read_levels(text: str) -> str:
 
 
 def write_levels(levels: str) -> str:
-    """The levels as tokens: runs of eight and more as `L*N`, all else literally."""
+    """The levels as tokens: runs of eight or more as `L*N`, the others one by one."""
     spaced = _RUN.sub(lambda run: f" {run.group()[0]}*{len(run.group())} ", levels)
     return " ".join(spaced.split())

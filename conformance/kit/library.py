@@ -1,4 +1,4 @@
-"""The cases and transcripts of files and folders."""
+"""Reads the cases and transcripts of files and folders."""
 
 from __future__ import annotations
 
@@ -22,7 +22,7 @@ def _files(path: str) -> list[str]:
 def read_library(paths: Iterable[str]) -> tuple[list[Case], dict[str, Transcript]]:
     """All cases of these files and folders, and the transcripts by the names of their cases.
 
-    Raises DocumentFault with the file in front, or OSError.
+    Raises DocumentFault with the name of the file in front, or OSError.
     """
     cases: dict[str, Case] = {}
     transcripts: dict[str, Transcript] = {}
@@ -30,13 +30,13 @@ def read_library(paths: Iterable[str]) -> tuple[list[Case], dict[str, Transcript
         with open(file, encoding="utf-8") as opened:
             text = opened.read()
         try:
-            more, told = read_document(text, cases.values())
+            more, recorded = read_document(text, cases.values())
         except DocumentFault as fault:
             fault.args = (f"{file}: {fault}",)
             raise
         for case in more:
             if case.name in cases:
-                raise ValueError(f"{file}: there is another case {case.name}")
+                raise ValueError(f"{file}: another file has a case {case.name}, too")
             cases[case.name] = case
-        transcripts.update({transcript.case: transcript for transcript in told})
+        transcripts.update({transcript.case: transcript for transcript in recorded})
     return list(cases.values()), transcripts

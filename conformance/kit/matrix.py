@@ -1,4 +1,4 @@
-"""Which case catches which mistake: what `conformance/mutants` finds, as text and in figures."""
+"""Which case detects which mutation: the results of `conformance/mutants` as text and figures."""
 
 from __future__ import annotations
 
@@ -7,16 +7,16 @@ from dataclasses import dataclass
 
 from .comparing import COUNTERS, END, EVENT, LEVEL, differences
 from .documents import Case, Transcript
-from .mistakes import Mistake
+from .mutations import Mutation
 
 KINDS = {LEVEL: "levels", EVENT: "events", COUNTERS: "counters", END: "counters"}
 
 
 @dataclass
 class Caught:
-    """The cases that catch a mistake, by what differs in them: levels, events or counters."""
+    """The cases that detect a mutation, by what differs in them: levels, events or counters."""
 
-    mistake: Mistake
+    mutation: Mutation
     cases: dict[str, list[Case]]
 
     def shows(self) -> str:
@@ -24,19 +24,19 @@ class Caught:
         return _first_kind(self.cases)
 
     def names(self) -> list[str]:
-        """The cases that catch it, in what its file says that it shows."""
-        return [case.name for case in self.cases.get(self.mistake.shows, [])]
+        """The cases that detect it by the means that its file names."""
+        return [case.name for case in self.cases.get(self.mutation.shows, [])]
 
     def families(self) -> list[str]:
         """The families of these cases."""
-        return sorted({case.family for case in self.cases.get(self.mistake.shows, [])})
+        return sorted({case.family for case in self.cases.get(self.mutation.shows, [])})
 
     def fault(self) -> str:
-        """Why the mistake is not caught as its file says; empty if it is."""
-        if self.shows() != self.mistake.shows:
-            return f"{self.mistake.name} shows in {self.shows()}, not in {self.mistake.shows}"
-        if self.mistake.shows != "nothing" and self.mistake.family not in self.families():
-            return f"{self.mistake.name} is not caught by {self.mistake.family}"
+        """Why the mutation is not detected in the way that its file says; empty if it is."""
+        if self.shows() != self.mutation.shows:
+            return f"{self.mutation.name} shows in {self.shows()}, not in {self.mutation.shows}"
+        if self.mutation.shows != "nothing" and self.mutation.family not in self.families():
+            return f"{self.mutation.name} is not detected by {self.mutation.family}"
         return ""
 
 
@@ -53,17 +53,17 @@ def _first_kind(by_kind: dict[str, list[Case]]) -> str:
 
 
 def shown_by(cases: list[Case], given: list[Transcript], expected: list[Transcript]) -> str:
-    """The first of levels, events and counters in which a model differs in some case; else `nothing`."""
+    """The first of levels, events and counters in which a model differs in some case, or `nothing`."""
     return _first_kind(_by_kind(cases, given, expected))
 
 
-def caught_by(mistake: Mistake, cases: list[Case], given: list[Transcript], expected: list[Transcript]) -> Caught:
-    """What the cases show of a mistake, by the transcripts of the model with it and without."""
-    return Caught(mistake, _by_kind(cases, given, expected))
+def caught_by(mutation: Mutation, cases: list[Case], given: list[Transcript], expected: list[Transcript]) -> Caught:
+    """The cases that detect a mutation, from the transcripts of the model with it and without it."""
+    return Caught(mutation, _by_kind(cases, given, expected))
 
 
 def cover(caught: list[Caught]) -> list[str]:
-    """Cases that together catch all mistakes: each time the one that catches most of those that are left."""
+    """Cases that together detect all mutations. Each one chosen detects the most of those that are left."""
     left: list[set[str]] = [set(one.names()) for one in caught if one.names()]
     chosen: list[str] = []
     while left:
@@ -75,53 +75,52 @@ def cover(caught: list[Caught]) -> list[str]:
 
 
 def count_lines(caught: list[Caught], cases: list[Case]) -> list[str]:
-    """What is caught, in figures."""
-    shown = Counter(one.mistake.shows for one in caught)
+    """What is detected, in figures."""
+    shown = Counter(one.mutation.shows for one in caught)
     alone = {one.names()[0] for one in caught if len(one.names()) == 1}
     return [
-        f"{len(caught)} mistakes and {len(cases)} cases: driven levels catch {shown['levels']}, "
-        f"{shown['events']} need events, {shown['counters']} need counters, {shown['nothing']} show nowhere",
-        f"{len(cover(caught))} cases together would catch all; {len(alone)} cases each catch one that no other does",
+        f"{len(caught)} mutations and {len(cases)} cases: driven levels detect {shown['levels']}, "
+        f"{shown['events']} need events, {shown['counters']} need counters, {shown['nothing']} not detected",
+        f"{len(cover(caught))} cases together would detect all; {len(alone)} cases each detect one that no other does",
     ]
 
 
 def idle_cases(caught: list[Caught], cases: list[Case]) -> list[str]:
-    """Cases that catch no mistake at all."""
-    catching = {name for one in caught for name in one.names()}
-    return [case.name for case in cases if case.name not in catching]
+    """Cases that detect no mutation at all."""
+    detecting = {name for one in caught for name in one.names()}
+    return [case.name for case in cases if case.name not in detecting]
 
 
 def reason_faults(reasons: dict[str, str], caught: list[Caught], cases: list[Case]) -> list[str]:
-    """Families with a case that alone catches no mistake have a reason for such cases, and no others have."""
+    """A family needs a reason if one of its cases is not the only one to detect some mutation; no other has one."""
     alone = {one.names()[0] for one in caught if len(one.names()) == 1}
     wanting = {case.family for case in cases if case.name not in alone}
-    faults = [f"there is no reason for the cases of {name}" for name in sorted(wanting - set(reasons))]
-    return faults + [f"there is a reason for {name}, which needs none" for name in sorted(set(reasons) - wanting)]
+    faults = [f"no reason is given for the cases of {name}" for name in sorted(wanting - set(reasons))]
+    return faults + [f"a reason is given for {name}, which needs none" for name in sorted(set(reasons) - wanting)]
 
 
 def matrix(caught: list[Caught], cases: list[Case]) -> str:
     """The whole matrix as text."""
-    lines = ["# Which case catches which mistake. Made by `conformance/mutants --write`."]
+    lines = ["# Which case detects which mutation. Made by `conformance/mutants --write`."]
     lines += [f"# {line}." for line in count_lines(caught, cases)]
     lines += [
         "",
-        "# Each mistake: the model it is a change of, where it shows, how many cases and families catch it so, and",
-        "# the cases.",
+        "# Each mutation: the mutated model, what differs, the number of cases and families that detect it, the cases.",
     ]
-    catches: dict[str, list[str]] = {case.name: [] for case in cases}
+    detects: dict[str, list[str]] = {case.name: [] for case in cases}
     alone: Counter[str] = Counter()
     for one in caught:
         names = one.names()
-        head = f"{one.mistake.name} ({one.mistake.source}, {one.mistake.shows}): "
+        head = f"{one.mutation.name} ({one.mutation.source}, {one.mutation.shows}): "
         lines.append(f"{head}{len(names)} cases, {len(one.families())} families: {' '.join(names)}".rstrip(": "))
         for name in names:
-            catches[name].append(one.mistake.name)
+            detects[name].append(one.mutation.name)
         if len(names) == 1:
             alone[names[0]] += 1
     lines += [
         "",
-        "# Each case: how many mistakes it catches, and how many of them no other case does. Why a case is there that",
-        "# alone catches none is said by reasons.txt, for each family.",
+        "# Each case: the number of mutations that it detects, and of those that it alone detects. For the other cases",
+        "# reasons.txt says, family by family, why they are there.",
     ]
-    lines += [f"{name}: {len(by)}, alone {alone[name]}" for name, by in catches.items()]
+    lines += [f"{name}: {len(by)}, alone {alone[name]}" for name, by in detects.items()]
     return "\n".join(lines) + "\n"

@@ -1,4 +1,4 @@
-"""Adapters that are built from sources, as they are and with a change in them."""
+"""Builds adapters from their sources, unchanged or with a change."""
 
 from __future__ import annotations
 
@@ -15,14 +15,14 @@ ADAPTER = "conformance/adapters/simulator.rs"
 
 
 class Patch(Protocol):
-    """A change of sources, such as a mistake."""
+    """A change of sources, such as a mutation."""
 
     def applied(self, texts: dict[str, str]) -> dict[str, str]:
-        """The sources, by their paths, with the change. Raises ValueError where it does not fit."""
+        """The sources, by path, with the change. Raises ValueError if it does not fit."""
 
 
 class NotBuilt(Exception):
-    """The compiler refuses the sources. The text is its own."""
+    """The compiler rejects the sources. The text is the compiler's."""
 
 
 def _run(command: Sequence[str]) -> None:
@@ -49,15 +49,15 @@ def _write(texts: dict[str, str], folder: str) -> None:
 
 @dataclass
 class Model:
-    """An adapter's sources by their paths. Its mistakes are changes of `texts`."""
+    """An adapter's sources by path. Its mutations are changes of `texts`."""
 
     name: str
     texts: dict[str, str]
 
     def build(self, folder: str, patch: Patch | None = None) -> str:
-        """Builds the adapter in a folder of its own: the program's path.
+        """Builds the adapter in a folder of its own. Returns the path of the program.
 
-        Raises NotBuilt, or ValueError where the patch does not fit.
+        Raises NotBuilt, or ValueError if the patch does not fit.
         """
         texts = self.texts if patch is None else patch.applied(self.texts)
         _write(texts, folder)
@@ -73,7 +73,7 @@ class Model:
 class CModel(Model):
     """The small controller in C.
 
-    What is compiled of it as it is is kept for the mistakes, each of which changes one file or two.
+    Objects of unchanged sources are reused for mutants, because a mutation changes one file or two.
     """
 
     objects: dict[str, str] = field(default_factory=dict)
@@ -97,7 +97,7 @@ class CModel(Model):
         return [os.environ.get("CC", "cc"), "-std=c99", "-w"]
 
     def keep_objects(self, folder: str) -> None:
-        """Compiles the sources as they are, for the builds that follow. The folder has to stay."""
+        """Compiles the unchanged sources for the builds that follow. The folder has to stay."""
         _write(self.texts, folder)
         self.objects = {path: self._object(path, folder) for path in self.texts if path.endswith(".c")}
 
@@ -112,11 +112,11 @@ class RustModel(Model):
 
 
 def controller() -> CModel:
-    """The small controller in C, as it is."""
+    """The small controller in C, unchanged."""
     paths = glob.glob(os.path.join(REPOSITORY, CONTROLLER, "*.[ch]"))
     return CModel("controller", _read(sorted(os.path.relpath(path, REPOSITORY) for path in paths)))
 
 
 def simulator() -> RustModel:
-    """The plain simulator in Rust, as it is."""
+    """The plain simulator in Rust, unchanged."""
     return RustModel("simulator", _read(SIMULATOR))

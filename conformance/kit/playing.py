@@ -1,4 +1,4 @@
-"""Plays a case against an adapter: what was driven and told is its transcript."""
+"""Plays a case against an adapter, and records its transcript."""
 
 from __future__ import annotations
 
@@ -9,7 +9,7 @@ from .documents import Case, Event, Transcript
 
 
 def seen_levels(case: Case) -> str:
-    """The tester's levels as the protocol has them, `f` where a bit time is forced."""
+    """The tester's levels for the protocol, with `f` in forced bit times."""
     levels = list(case.levels)
     for time in case.forced:
         levels[time] = "f"
@@ -17,7 +17,7 @@ def seen_levels(case: Case) -> str:
 
 
 def cuts(case: Case, batch: int = MOST_LEVELS) -> Iterator[tuple[int, int]]:
-    """Fronts and ends of the `play` lines: cut at each offer and wish, none longer than the batch."""
+    """The bounds of the `play` lines: cut at each offer and request, none longer than the batch."""
     marks = {time for time, _ in case.offers} | {time for time, _ in case.holds}
     time, bits = 0, len(case.levels)
     while time < bits:
@@ -36,9 +36,9 @@ def play(case: Case, adapter: Adapter, batch: int = MOST_LEVELS) -> Transcript:
     for time, end in cuts(case, batch):
         for _, frame in (offer for offer in case.offers if offer[0] == time):
             adapter.offer(frame)
-        for _, wish in (hold for hold in case.holds if hold[0] == time):
-            adapter.hold(wish)
-        driven, told = adapter.play(levels[time:end])
+        for _, overloads in (hold for hold in case.holds if hold[0] == time):
+            adapter.hold(overloads)
+        driven, reported = adapter.play(levels[time:end])
         drove.append(driven)
-        events += [(time + place, event) for place, event in told]
+        events += [(time + place, event) for place, event in reported]
     return Transcript(case.name, "".join(drove), events or None, None, adapter.end())

@@ -1,4 +1,4 @@
-"""What a run says: verdicts, a summary by family, and a report in JUnit's XML."""
+"""The output of a run: verdicts, a summary by family, and a report in JUnit's XML."""
 
 from __future__ import annotations
 
@@ -15,7 +15,7 @@ _WORDS = {"pass": "passed", "fail": "failed", "void": "void", "skip": "skipped"}
 
 @dataclass(frozen=True)
 class Verdict:
-    """What is said of one case. `played` is the kind where nothing was there to compare with."""
+    """The verdict on one case. Its kind is `played` if there was nothing to compare with."""
 
     case: Case
     kind: str
@@ -23,27 +23,27 @@ class Verdict:
     seconds: float = 0.0
 
     def line(self) -> str:
-        """The line that a run prints of it."""
+        """The line that a run prints."""
         if self.kind == "fail":
             note = "".join(f"; choice {choice}" for choice in self.case.choices)
             return f"fail {self.case.name} at {self.detail}{note}"
         return f"{self.kind} {self.case.name}" + (f": {self.detail}" if self.detail else "")
 
 
-SHOWN_BEFORE, SHOWN_BEHIND = 40, 10
+SHOWN_BEFORE, SHOWN_AFTER = 40, 10
 
 
 def window_lines(case: Case, time: int, given: Transcript, expected: Transcript) -> list[str]:
-    """The levels around a bit time: what the tester drove, what the controller drove, and what was due."""
+    """The levels around a bit time: what the tester drove, what the controller drove, and what was expected."""
     front = max(0, time - SHOWN_BEFORE)
-    end = time + SHOWN_BEHIND
+    end = time + SHOWN_AFTER
     rows = (("tester", seen_levels(case)), ("drove", given.drove), ("due", expected.drove))
     lines = [f"  {name:6} {levels[front:end]}" for name, levels in rows]
     return [*lines, f"  {' ' * (7 + time - front)}^ {time}"]
 
 
 def count_line(verdicts: Iterable[Verdict]) -> str:
-    """The last line of a run: how many of each kind there are."""
+    """The last line of a run: the number of verdicts of each kind."""
     kinds = [verdict.kind for verdict in verdicts]
     counts = [f"{_WORDS[kind]} {kinds.count(kind)}" for kind in KINDS]
     if "played" in kinds:
@@ -52,7 +52,7 @@ def count_line(verdicts: Iterable[Verdict]) -> str:
 
 
 def summary_lines(verdicts: Iterable[Verdict]) -> list[str]:
-    """A line for each family, in the order of its first case."""
+    """A line for each family, in the order of their first cases."""
     families: dict[str, list[Verdict]] = {}
     for verdict in verdicts:
         families.setdefault(verdict.case.family, []).append(verdict)
@@ -64,9 +64,9 @@ NOTHING_COMPARED = 5
 
 
 def exit_status(verdicts: Iterable[Verdict], only_plays: bool = False) -> int:
-    """0 where all passed or were skipped, 1 where one failed, 3 where one is void, 5 where nothing was compared.
+    """0 if all passed or were skipped, 1 if one failed, 3 if one is void, 5 if nothing was compared.
 
-    A run that only plays, to write transcripts, has to have played one.
+    A run that only plays, to write transcripts, needs at least one played case for 0.
     """
     kinds = {verdict.kind for verdict in verdicts}
     if "void" in kinds:
@@ -77,12 +77,12 @@ def exit_status(verdicts: Iterable[Verdict], only_plays: bool = False) -> int:
 
 
 def _shown(text: str) -> str:
-    """The text as XML can hold it: an adapter's reason may have control characters."""
+    """The text without what XML cannot hold: an adapter's reason may have control characters."""
     return "".join(letter if letter.isprintable() else "?" for letter in text)
 
 
 def write_junit(path: str, name: str, verdicts: list[Verdict]) -> None:
-    """Each family is a class, each case a test."""
+    """Writes the report. Each family is a class, each case a test."""
     kinds = [verdict.kind for verdict in verdicts]
     suite = ET.Element(
         "testsuite",

@@ -1,4 +1,4 @@
-"""Plays many cases: an adapter that made a case void is ended, and started anew for the next one."""
+"""Plays many cases. An adapter that made a case void is ended, and started again for the next one."""
 
 from __future__ import annotations
 
@@ -17,7 +17,7 @@ class Stopped(Exception):
 
 
 class Played:
-    """A case that was played, or why it wasn't."""
+    """A case with its transcript, or with the reason why there is none."""
 
     def __init__(self, case: Case, transcript: Transcript | None, kind: str, detail: str, seconds: float) -> None:
         self.case, self.transcript, self.kind, self.detail, self.seconds = case, transcript, kind, detail, seconds
@@ -26,14 +26,14 @@ class Played:
 class Session:
     """An adapter's command, and the adapter while one runs.
 
-    Once it has told an event, a case in which it tells none is one in which it told that there were none.
+    Once it has reported an event, a case in which it reports none counts as a case without events.
     """
 
     def __init__(self, command: Sequence[str], without: Sequence[str] = (), batch: int = MOST_LEVELS) -> None:
         self._command, self._without, self._batch = command, without, batch
         self._adapter: Adapter | None = None
         self._voids = 0
-        self._tells_events = False
+        self._reports_events = False
 
     def __enter__(self) -> Session:
         return self
@@ -60,13 +60,13 @@ class Session:
             self._close()
             return None, "void", str(reason)
         if transcript.events is not None:
-            self._tells_events = True
-        elif self._tells_events:
+            self._reports_events = True
+        elif self._reports_events:
             transcript.events = []
         return transcript, "played", ""
 
     def play_all(self, cases: Iterable[Case]) -> Iterator[Played]:
-        """Each case in turn. Raises Stopped behind the third void in a row."""
+        """Plays each case in turn. Raises Stopped after the third void in a row."""
         for case in cases:
             begun = time.monotonic()
             transcript, kind, detail = self._play(case)

@@ -1,6 +1,6 @@
 """Reads the part of TOML that kit documents use, for Python before 3.11.
 
-It is arrays of tables, and keys with strings, whole numbers and arrays of them.
+This part has arrays of tables, and keys with strings, whole numbers and arrays of them.
 """
 
 from __future__ import annotations
@@ -8,7 +8,7 @@ from __future__ import annotations
 import re
 from typing import Any
 
-_BLANK = re.compile(r"(?:[ \t\r\n]|#[^\n]*)*")
+_SPACE = re.compile(r"(?:[ \t\r\n]|#[^\n]*)*")
 _HEADER = re.compile(r"\[\[[ \t]*([A-Za-z0-9_-]+)[ \t]*\]\]")
 _KEY = re.compile(r"([A-Za-z0-9_-]+)[ \t]*=[ \t]*")
 _LINE_END = re.compile(r"[ \t]*(?:#[^\n]*)?\r?(?:\n|$)")
@@ -20,7 +20,7 @@ _ESCAPES = {'"': '"', "\\": "\\", "b": "\b", "f": "\f", "n": "\n", "r": "\r", "t
 
 
 def loads(text: str) -> dict[str, Any]:
-    """The document as a dictionary. Raises ValueError where the text is none."""
+    """The document as a dictionary. Raises ValueError if the text is none."""
     document: dict[str, Any] = {}
     table = document
     at = _skip(text, 0)
@@ -37,21 +37,21 @@ def loads(text: str) -> dict[str, Any]:
 
 
 def _skip(text: str, at: int) -> int:
-    blank = _BLANK.match(text, at)
-    return blank.end() if blank else at
+    space = _SPACE.match(text, at)
+    return space.end() if space else at
 
 
 def _end_line(text: str, at: int) -> int:
     end = _LINE_END.match(text, at)
     if end is None:
-        raise ValueError(f"something stands behind a value, at {at}")
+        raise ValueError(f"expected the end of the line after a value, at {at}")
     return end.end()
 
 
 def _read_pair(text: str, at: int, table: dict[str, Any]) -> int:
     key = _KEY.match(text, at)
     if key is None or key.group(1) in table:
-        raise ValueError(f"no key of its own at {at}")
+        raise ValueError(f"expected a new key at {at}")
     table[key.group(1)], at = _read_value(text, key.end())
     return _end_line(text, at)
 
@@ -68,7 +68,7 @@ def _read_value(text: str, at: int) -> tuple[Any, int]:
     number = _NUMBER.match(text, at)
     if number is not None:
         return int(number.group()), number.end()
-    raise ValueError(f"no value at {at}")
+    raise ValueError(f"expected a value at {at}")
 
 
 def _read_array(text: str, at: int) -> tuple[list[Any], int]:
@@ -81,5 +81,5 @@ def _read_array(text: str, at: int) -> tuple[list[Any], int]:
         if text.startswith(",", at):
             at = _skip(text, at + 1)
         elif not text.startswith("]", at):
-            raise ValueError(f"no end of an array at {at}")
+            raise ValueError(f"expected the end of an array at {at}")
     return values, at + 1

@@ -1,4 +1,4 @@
-"""Plays all cases to an adapter of our own at once, without waiting for each answer."""
+"""Plays all cases to an adapter of this repository at once, without waiting for each reply."""
 
 from __future__ import annotations
 
@@ -11,9 +11,9 @@ SECONDS = 20
 
 
 def script(cases: list[Case]) -> str:
-    """All that a runner would write for the cases.
+    """All lines that a runner would write for the cases.
 
-    It is sent at once, without waiting for answers: the adapters are our own, and take lines one after another.
+    They are sent at once, without waiting for replies: the adapters of this repository read one line after another.
     """
     lines: list[str] = []
     for case in cases:
@@ -21,7 +21,7 @@ def script(cases: list[Case]) -> str:
         levels = seen_levels(case)
         for time, end in cuts(case):
             lines += [f"offer {frame}" for at, frame in case.offers if at == time]
-            lines += [f"hold {wish}" for at, wish in case.holds if at == time]
+            lines += [f"hold {overloads}" for at, overloads in case.holds if at == time]
             lines.append(f"play {levels[time:end]}")
         lines.append("end")
     return "\n".join(lines + ["quit"]) + "\n"
@@ -30,7 +30,7 @@ def script(cases: list[Case]) -> str:
 def answers(text: str, cases: list[Case]) -> list[Transcript]:
     """The transcripts in an adapter's whole output.
 
-    Raises ValueError where it ends before the cases do, or an answer is an error.
+    Raises ValueError if it ends too early, or if a reply is an error.
     """
     transcripts: list[Transcript] = []
     drove: str = ""
@@ -49,13 +49,13 @@ def answers(text: str, cases: list[Case]) -> list[Transcript]:
             name = cases[len(transcripts)].name
             transcripts.append(Transcript(name, drove, events, None, (state, int(tec), int(rec))))
         elif word == "error":
-            raise ValueError(f"the adapter answers: {line}")
+            raise ValueError(f"the adapter replied: {line}")
     if len(transcripts) != len(cases):
         raise ValueError(f"the adapter ended in {cases[len(transcripts)].name}")
     return transcripts
 
 
 def played(program: str, cases: list[Case], text: str) -> list[Transcript]:
-    """What the adapter does in the cases, of which the text is the script."""
+    """What the adapter does in the cases; the text is their script."""
     run = subprocess.run([program], input=text, capture_output=True, text=True, timeout=SECONDS)
     return answers(run.stdout, cases)

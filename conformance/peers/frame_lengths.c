@@ -1,6 +1,6 @@
 /*
- * Holds can_frame_length(.., CFL_EXACT, ..) of can-utils against the library's coding, over frames at random: it is to
- * be that of the frame's levels and the three of intermission. It tells how many differ, by kinds of frames.
+ * Compares can_frame_length(.., CFL_EXACT, ..) of can-utils with the library's encoder, over random frames. It should
+ * be the number of the frame's levels, and the three of intermission. Prints how many differ, by kind of frame.
  *
  *     cc -I bindings -I CAN-UTILS frame_lengths.c CAN-UTILS/canframelen.c bindings/out/libriddlesage.a
  */
@@ -11,7 +11,7 @@
 #include <stdlib.h>
 #include <string.h>
 
-/* it wants this one's types */
+/* it needs the types of linux/can.h */
 #include "canframelen.h"
 
 enum { FRAMES = 1000000, INTERMISSION = 3 };
@@ -32,7 +32,7 @@ static uint32_t chance(void)
   return (uint32_t)(seed >> 32);
 }
 
-/* A frame at random, with many equal levels in half of them. can-utils knows DLC up to 8. */
+/* A random frame; half of them have many equal levels. can-utils knows DLC 0 to 8. */
 static riddlesage_frame some_frame(void)
 {
   riddlesage_frame frame = { 0, 0, 0, 0, { 0 } };

@@ -1,6 +1,6 @@
 /*
- * Tells how many frames a log of candump has, and how many bit times they take of a bus, by can-utils' own reading of
- * its lines and its can_frame_length(.., CFL_EXACT, ..), by which canbusload -e reckons.
+ * Prints the number of frames in a log of candump, and of the bit times that they take, according to can-utils: to its
+ * parser of such lines, and to can_frame_length(.., CFL_EXACT, ..), which canbusload -e uses.
  *
  *     cc -I CAN-UTILS log_lengths.c CAN-UTILS/canframelen.c CAN-UTILS/lib.c
  */

@@ -1,5 +1,5 @@
 #!/usr/bin/env python3
-"""Writes a log of candump, of so many frames at random, without those that can-utils reads otherwise.
+"""Writes a log of candump with COUNT random frames, without those that can-utils reads differently.
 
 some_log.py [COUNT]
 """

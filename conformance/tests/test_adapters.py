@@ -1,4 +1,4 @@
-"""Tests of the adapters: rows worked out by hand, and lines that are none of the protocol."""
+"""Tests of the adapters: hand-computed test vectors, and lines that the protocol does not have."""
 
 from __future__ import annotations
 
@@ -28,7 +28,7 @@ BAD_LINES = (
 
 
 class Answers(unittest.TestCase):
-    """What an adapter must answer, whatever controller is in it."""
+    """What an adapter must reply, whatever controller is in it."""
 
     command: list[str]
     folder: tempfile.TemporaryDirectory[str]
@@ -51,35 +51,35 @@ class Answers(unittest.TestCase):
         return run.stdout.splitlines()[1:]
 
     def test_six_dominant_levels(self) -> None:
-        """To an idle controller: a stuff error, a flag of six levels behind it, and a REC of 1."""
-        told = self.answered(["case a idle", "play 000000", "play 11111111", "end"])
+        """While the controller is idle: a stuff error, then a flag of six bits, and a REC of 1."""
+        given = self.answered(["case a idle", "play 000000", "play 11111111", "end"])
         due = ["ready", "event 5 error stuff", "drove 111111", "drove 00000011", "state active 0 1"]
-        self.assertEqual(told, due)
+        self.assertEqual(given, due)
 
     def test_a_frame_is_sent_as_documented(self) -> None:
-        """The levels of the frame stand in README, and the place of its ACK slot."""
+        """README has the levels of this frame."""
         levels = "1" * 41 + "0" + "1" * 8
-        told = self.answered(["case a idle", "offer S 000 D 0", f"play {levels}", "end"])
+        given = self.answered(["case a idle", "offer S 000 D 0", f"play {levels}", "end"])
         drove = "00000100000100000100000100000100000100001111111111"
-        self.assertEqual(told, ["ready", "event 49 sent S 000 D 0", f"drove {drove}", "state active 0 0"])
+        self.assertEqual(given, ["ready", "event 49 sent S 000 D 0", f"drove {drove}", "state active 0 0"])
 
     def test_joining_takes_eleven_levels(self) -> None:
-        told = self.answered(["case a joining", "offer S 000 D 0", "play 111111111110", "end"])
-        self.assertEqual(told, ["ready", "drove 111111111110", "state active 0 0"])
+        given = self.answered(["case a joining", "offer S 000 D 0", "play 111111111110", "end"])
+        self.assertEqual(given, ["ready", "drove 111111111110", "state active 0 0"])
 
     def test_frames_come_back_as_text(self) -> None:
-        """A frame is offered, and told as sent."""
+        """A frame is offered, and reported as sent."""
         for frame in ("S 7ff R 15", "E 1fffffff D 0", "E 00000001 D 15 0123456789abcdef"):
             slot = Frame.parse(frame).wire().place("ack")
-            told = self.answered(["case a idle", f"offer {frame}", f"play {'1' * slot}0{'1' * 8}"])
-            self.assertEqual(told[1], f"event {slot + 8} sent {frame}")
+            given = self.answered(["case a idle", f"offer {frame}", f"play {'1' * slot}0{'1' * 8}"])
+            self.assertEqual(given[1], f"event {slot + 8} sent {frame}")
 
     def test_other_lines_are_refused(self) -> None:
-        """Each of them is answered by an error, and none of them hands the controller anything."""
-        told = self.answered(["case a idle", *BAD_LINES, "play 1111", "end"])
-        self.assertEqual([line for line in told[1:-2] if not line.startswith("error ")], [])
-        self.assertEqual(len(told), 1 + len(BAD_LINES) + 2)
-        self.assertEqual(told[-2:], ["drove 1111", "state active 0 0"])
+        """The reply to each of them is an error, and none of them changes the controller."""
+        given = self.answered(["case a idle", *BAD_LINES, "play 1111", "end"])
+        self.assertEqual([line for line in given[1:-2] if not line.startswith("error ")], [])
+        self.assertEqual(len(given), 1 + len(BAD_LINES) + 2)
+        self.assertEqual(given[-2:], ["drove 1111", "state active 0 0"])
 
 
 class InC(Answers):
@@ -92,7 +92,7 @@ class InC(Answers):
         cls.command = [program]
 
 
-@unittest.skipUnless(shutil.which("iverilog"), "iverilog is not there")
+@unittest.skipUnless(shutil.which("iverilog"), "iverilog is not installed")
 class InVerilog(Answers):
     @classmethod
     def setUpClass(cls) -> None:
@@ -104,13 +104,13 @@ class InVerilog(Answers):
 
 
 def is_built(program: str) -> bool:
-    """Whether a program of the repository is built of the sources as they are: its launcher would prove it else."""
+    """Whether a program is built from the current sources. If not, its launcher would prove it."""
     command = [os.path.join(REPOSITORY, "tools", "is-current"), os.path.join(REPOSITORY, "out", program), program]
     return subprocess.run(command, check=False).returncode == 0
 
 
 class Proved(Answers):
-    """The proved reference, where it is built: its first call would prove it, which takes minutes."""
+    """The proved reference, if it is built: its first call would prove it, which takes minutes."""
 
     @classmethod
     def setUpClass(cls) -> None:

@@ -1,4 +1,4 @@
-"""Tests of the co-simulation of examples/cosim, with the controller in C as it is and with a mistake in it."""
+"""Tests of the co-simulation of examples/cosim, with the controller in C and with a mutant of it."""
 
 from __future__ import annotations
 
@@ -14,7 +14,7 @@ sys.path.insert(0, COSIM)
 
 from kit.adapter import Adapter
 from kit.documents import read_document, write_case
-from kit.mistakes import Mistake
+from kit.mutations import Mutation
 from kit.models import controller
 from traffic import Traffic, arbitration_field
 
@@ -30,8 +30,8 @@ class Cosim(unittest.TestCase):
     def setUpClass(cls) -> None:
         cls.folder = tempfile.TemporaryDirectory()
         cls.golden = controller().build(os.path.join(cls.folder.name, "golden"))
-        mistake = Mistake("suspend-7", "controller", changes=[SUSPEND_7])
-        cls.broken = controller().build(os.path.join(cls.folder.name, "broken"), mistake)
+        mutation = Mutation("suspend-7", "controller", changes=[SUSPEND_7])
+        cls.broken = controller().build(os.path.join(cls.folder.name, "broken"), mutation)
 
     @classmethod
     def tearDownClass(cls) -> None:
@@ -58,7 +58,7 @@ class Cosim(unittest.TestCase):
         run = self.run_cosim("--runs", "2", "--", self.golden)
         self.assertEqual((run.returncode, run.stdout.split(": ")[-1]), (0, "the same\n"), run)
 
-    def test_a_difference_is_told_and_kept(self) -> None:
+    def test_a_difference_is_reported_and_stored(self) -> None:
         kept = os.path.join(self.folder.name, "kept.toml")
         run = self.run_cosim("--keep", kept, "--", self.broken)
         self.assertEqual(run.returncode, 1, run)

@@ -1,8 +1,9 @@
-"""Tests of the kit: levels as text, frames, documents, comparisons, reports, mistakes and their matrix."""
+"""Tests of the kit: levels as text, frames, documents, comparisons, reports, mutations and their matrix."""
 
 from __future__ import annotations
 
 import os
+import re
 import unittest
 
 from kit import toml_subset
@@ -13,7 +14,7 @@ from kit.frames import Frame
 from kit.levels import read_levels, write_levels
 from kit.library import FOLDER, read_library
 from kit.matrix import caught_by, cover, idle_cases, matrix, reason_faults
-from kit.mistakes import Mistake, read_mistakes
+from kit.mutations import Mutation, read_mutations
 from kit.models import controller, simulator
 from kit.playing import cuts
 from kit.reports import window_lines
@@ -62,27 +63,28 @@ class Documents(unittest.TestCase):
     def place(self, text: str) -> str:
         with self.assertRaises(DocumentFault) as raised:
             read_document(text)
-        return str(raised.exception)
+        self.assertRegex(str(raised.exception), rf"^P2 {re.escape(raised.exception.place)}: .")
+        return raised.exception.place
 
     def test_cases_come_back(self) -> None:
         for case in read_library([FOLDER])[0]:
             again = read_document(write_case(case))[0][0]
             self.assertEqual((again.levels, again.offers, again.forced), (case.levels, case.offers, case.forced))
 
-    def test_the_first_wrong_field_is_told(self) -> None:
-        self.assertEqual(self.place("case = ["), "P2 toml")
-        self.assertEqual(self.place("other = 1"), "P2 key")
-        self.assertEqual(self.place(CASE.replace("version = 1", "version = 2")), "P2 case[0].version")
-        self.assertEqual(self.place(CASE.replace("bits = 20", "bits = 21")), "P2 case[0].tester")
-        self.assertEqual(self.place(CASE.replace("1*16", "1*016")), "P2 case[0].tester[0]")
-        self.assertEqual(self.place(CASE.replace("[4, 6]", "[2, 6]")), "P2 case[0].forced[0]")
-        self.assertEqual(self.place(CASE.replace("[4, 6]", "[4, 4]")), "P2 case[0].forced[1]")
-        self.assertEqual(self.place(CASE.replace('needs = ["forced"]\n', "")), "P2 case[0].needs")
-        self.assertEqual(self.place(CASE + CASE), "P2 case[1].name")
+    def test_the_first_wrong_field_is_reported(self) -> None:
+        self.assertEqual(self.place("case = ["), "toml")
+        self.assertEqual(self.place("other = 1"), "key")
+        self.assertEqual(self.place(CASE.replace("version = 1", "version = 2")), "case[0].version")
+        self.assertEqual(self.place(CASE.replace("bits = 20", "bits = 21")), "case[0].tester")
+        self.assertEqual(self.place(CASE.replace("1*16", "1*016")), "case[0].tester[0]")
+        self.assertEqual(self.place(CASE.replace("[4, 6]", "[2, 6]")), "case[0].forced[0]")
+        self.assertEqual(self.place(CASE.replace("[4, 6]", "[4, 4]")), "case[0].forced[1]")
+        self.assertEqual(self.place(CASE.replace('needs = ["forced"]\n', "")), "case[0].needs")
+        self.assertEqual(self.place(CASE + CASE), "case[1].name")
 
     def test_transcripts_come_back(self) -> None:
-        told = Transcript("some-case", "1" * 20, [(3, "error stuff")], [(3, 0, 1)], ("active", 0, 1))
-        self.assertEqual(read_document(CASE + write_transcript(told))[1], [told])
+        given = Transcript("some-case", "1" * 20, [(3, "error stuff")], [(3, 0, 1)], ("active", 0, 1))
+        self.assertEqual(read_document(CASE + write_transcript(given))[1], [given])
 
     def test_the_small_reader_reads_the_cases(self) -> None:
         read = toml_subset.loads(CASE)
@@ -122,13 +124,13 @@ class Playing(unittest.TestCase):
         with Session(["true"], without=["forced"]) as session:
             self.assertEqual([one.detail for one in session.play_all([case])], ["forced"])
 
-    def test_who_tells_events_tells_that_there_are_none(self) -> None:
-        """The adapter tells an event in its second case alone."""
+    def test_a_case_without_events_after_one_with_events(self) -> None:
+        """The adapter reports an event in its second case only."""
         cases = read_document("".join(CASE.replace("some-case", f"some-{name}") for name in ("one", "two", "three")))[0]
         answers = "".join(f"ready\n{event}drove {'1' * 20}\nstate unknown\n" for event in ("", "event 0 lost\n", ""))
         with Session(["sh", "-c", 'printf "$0"; cat > /dev/null', "can-kit 1 one event\n" + answers]) as session:
-            told = [one.transcript.events for one in session.play_all(cases) if one.transcript is not None]
-        self.assertEqual(told, [None, [(0, "lost")], []])
+            events = [one.transcript.events for one in session.play_all(cases) if one.transcript is not None]
+        self.assertEqual(events, [None, [(0, "lost")], []])
 
 
 class Reports(unittest.TestCase):
@@ -142,7 +144,7 @@ class Reports(unittest.TestCase):
 
 
 class Matrix(unittest.TestCase):
-    """Three cases: the first mistake is caught by two of them, the second by one."""
+    """Three cases: two of them detect the first mutation, one detects the second."""
 
     def setUp(self) -> None:
         text = "".join(CASE.replace("some-case", f"some-{name}") for name in ("one", "two", "three"))
@@ -150,10 +152,10 @@ class Matrix(unittest.TestCase):
         right = [Transcript(case.name, "1" * 20, [(1, "lost")]) for case in self.cases]
         wrong = Transcript("", "0" + "1" * 19, [(1, "lost")])
         both, last = [wrong, wrong, right[2]], [right[0], wrong, right[2]]
-        mistakes = [Mistake(name, "controller", "", "some", "levels") for name in ("seen-twice", "seen-once")]
-        self.caught = [caught_by(mistakes[0], self.cases, both, right), caught_by(mistakes[1], self.cases, last, right)]
+        twice, once = (Mutation(name, "controller", "", "some", "levels") for name in ("seen-twice", "seen-once"))
+        self.caught = [caught_by(twice, self.cases, both, right), caught_by(once, self.cases, last, right)]
 
-    def test_what_catches_what(self) -> None:
+    def test_which_case_detects_which(self) -> None:
         self.assertEqual([one.names() for one in self.caught], [["some-one", "some-two"], ["some-two"]])
         self.assertEqual(cover(self.caught), ["some-two"])
         self.assertEqual(idle_cases(self.caught, self.cases), ["some-three"])
@@ -163,8 +165,8 @@ class Matrix(unittest.TestCase):
     def test_families_need_reasons(self) -> None:
         self.assertEqual(reason_faults({"some": "why"}, self.caught, self.cases), [])
         faults = reason_faults({"other": "why"}, self.caught, self.cases)
-        told = ["there is no reason for the cases of some", "there is a reason for other, which needs none"]
-        self.assertEqual(faults, told)
+        due = ["no reason is given for the cases of some", "a reason is given for other, which needs none"]
+        self.assertEqual(faults, due)
 
 
 class Changes(unittest.TestCase):
@@ -182,7 +184,7 @@ class Changes(unittest.TestCase):
             ],
         )
 
-    def test_changes_that_read_alike_are_numbered(self) -> None:
+    def test_changes_with_the_same_text_are_numbered(self) -> None:
         numbers = [change.text().split("=> ")[1] for change in changes("a.c", "    x = 0;\n    x = 0;\n")]
         self.assertEqual(numbers, ["x = 1;", ";", "x = 1; (2)", "; (2)"])
 
@@ -191,12 +193,12 @@ class Changes(unittest.TestCase):
         self.assertEqual(change.applied({"a.c": "    x = 0;\n    x = 0;\n"}), {"a.c": "    x = 0;\n    x = 1;\n"})
 
 
-class Mistakes(unittest.TestCase):
-    def test_every_mistake_fits_its_source(self) -> None:
+class Mutations(unittest.TestCase):
+    def test_every_mutation_fits_its_source(self) -> None:
         for model in (controller(), simulator()):
-            with open(os.path.join(TOP, "mistakes", f"{model.name}.txt"), encoding="utf-8") as file:
-                for mistake in read_mistakes(file.read(), model.name):
-                    self.assertNotEqual(mistake.applied(model.texts), model.texts)
+            with open(os.path.join(TOP, "mutations", f"{model.name}.txt"), encoding="utf-8") as file:
+                for mutation in read_mutations(file.read(), model.name):
+                    self.assertNotEqual(mutation.applied(model.texts), model.texts)
 
 
 if __name__ == "__main__":

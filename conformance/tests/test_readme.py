@@ -1,4 +1,4 @@
-"""The walk of README: its commands, with the controller in C for yours, and the mistake that it has you make."""
+"""The commands that README shows, with the mutant of the controller in C that it builds as the reader's controller."""
 
 from __future__ import annotations
 
@@ -9,13 +9,14 @@ import subprocess
 import tempfile
 import unittest
 
+from kit.documents import Case, read_document
+from kit.library import FOLDER, read_library
+
 REPOSITORY = pathlib.Path(__file__).resolve().parent.parent.parent
 PAGE = (REPOSITORY / "conformance" / "README.md").read_text("utf-8")
 BLOCKS = [
     [line[4:] for line in block.splitlines()] for block in re.findall(r"(?:^ {4}.*\n)+", PAGE, flags=re.MULTILINE)
 ]
-# seven for eight in take_suspend
-MISTAKE = "sed -i '/^static enum event take_suspend/,/^}/s/8/7/' ../mine/controller.c"
 
 
 def block_of(begin: str) -> list[str]:
@@ -23,8 +24,20 @@ def block_of(begin: str) -> list[str]:
     return next(block for block in BLOCKS if block[0].startswith(begin))
 
 
+def walked(block: list[str]) -> tuple[str, str]:
+    """The commands of a block, each after a dollar sign, and their output."""
+    commands = [line[2:] for line in block if line.startswith("$ ")]
+    return "\n".join(commands), "\n".join(line for line in block if not line.startswith("$ "))
+
+
+def counted(cases: list[Case]) -> dict[str, int]:
+    """The number of cases of each family."""
+    families = [case.family for case in cases]
+    return {family: families.count(family) for family in families}
+
+
 class Walk(unittest.TestCase):
-    """The steps of the page in their order, in a folder that stands for the clone."""
+    """The steps of the page in their order, in a folder that serves as the clone."""
 
     def setUp(self) -> None:
         """Links the parts of the repository, so that nothing is written to it."""
@@ -37,48 +50,55 @@ class Walk(unittest.TestCase):
     def tearDown(self) -> None:
         self.folder.cleanup()
 
-    def last_line(self, *commands: str) -> str:
-        """The last line that the commands print, whatever the status of the last of them."""
-        return self.printed(*commands).splitlines()[-1]
-
     def printed(self, *commands: str) -> str:
-        """What they print, with the adapter for COMMAND and the folder for /tmp."""
+        """What the commands print, whatever their status, with the adapter for COMMAND and the folder for /tmp."""
         text = "\n".join(commands).replace("COMMAND", "../adapter").replace("/tmp/", f"{self.folder.name}/")
-        ran = subprocess.run(["bash", "-eu", "-c", text], cwd=self.clone, capture_output=True, text=True, check=False)
+        ran = subprocess.run(["bash", "-c", text], cwd=self.clone, capture_output=True, text=True, check=False)
         return ran.stdout
 
-    def shown(self, line: str) -> None:
-        """The page has it."""
-        self.assertIn(f"`{line}`", PAGE)
+    def last_line(self, *commands: str) -> str:
+        """The last line that they print."""
+        return self.printed(*commands).splitlines()[-1]
 
-    @unittest.skipUnless(shutil.which("cc"), "cc is not there")
+    def walk(self, begin: str) -> None:
+        """The commands of the block that begins so print what it shows."""
+        commands, output = walked(block_of(begin))
+        self.assertEqual(self.printed(commands).strip("\n"), output)
+
+    @unittest.skipUnless(shutil.which("cc"), "cc is not installed")
     def test_from_a_clone_to_a_verdict(self) -> None:
-        """A skeleton, the controller as it stands, and with seven levels where suspend transmission has eight."""
-        self.shown(self.last_line(*block_of("conformance/run --quiet --expect")))
-        mine = block_of("cp -r conformance/adapters/controller")
-        self.shown(self.last_line(*mine))
-        self.shown(self.last_line(MISTAKE, *mine[1:]))
+        """The controller, its mutant, the skeleton, the long set and the co-simulation."""
+        self.walk("$ cp -r conformance/adapters/controller")
+        self.walk("$ sed")
+        self.walk("$ conformance/run --quiet --expect conformance/transcripts -- conformance/adapters/skeleton.py")
         self.assertIn("passed", self.last_line(*block_of("conformance/run --show --only rx-identifiers")))
-        fault = block_of("fail suspend-behind-error at 253")
-        told = self.printed("conformance/run --show --expect conformance/transcripts -- COMMAND")
-        self.assertIn("\n".join(fault), told)
 
         further = block_of("cc -std=c99 -O2 -o /tmp/reference")
         self.printed(*further[:2])
-        counted = re.fullmatch(r"passed \d+ failed (\d+) void 0 skipped 0 of (\d+)", self.last_line(further[2]))
-        assert counted
-        self.assertIn(f"With the mistake above {counted[1]} of the {counted[2]} cases fail.", PAGE)
+        result = re.fullmatch(r"passed \d+ failed (\d+) void 0 skipped 0 of (\d+)", self.last_line(further[2]))
+        assert result
+        self.assertIn(f"With the mutation above, {result[1]} of the {result[2]} cases fail.", PAGE)
         self.assertFalse(self.last_line(further[3]).endswith("the same"))
-        self.printed("cp conformance/adapters/controller/controller.c ../mine", *mine[1:])
-        self.assertTrue(self.last_line(further[3].replace("--runs 200", "--runs 5")).endswith("the same"))
+        same = further[3].replace("COMMAND", "/tmp/reference").replace("--runs 200", "--runs 5")
+        self.assertTrue(self.last_line(same).endswith("the same"))
 
-    @unittest.skipUnless(shutil.which("cc") and shutil.which("rt"), "cc or rt is not there")
+        standard, long = (counted(read_library([path])[0]) for path in (FOLDER, f"{self.folder.name}/long"))
+        table = PAGE.split("| Class |")[1].split("\n## ")[0]
+        rows = re.findall(r"\b([a-z][a-z-]+) (\d+)(?: \((\d+)\))?(?=[,| ])", table)
+        shown = {(family, int(number), int(more or number)) for family, number, more in rows}
+        self.assertEqual(shown, {(family, standard[family], long[family]) for family in standard})
+
+    @unittest.skipUnless(shutil.which("cc") and shutil.which("rt"), "cc or rt is not installed")
     def test_have_it_judged(self) -> None:
         """The proved judge names the rule."""
-        mine = block_of("cp -r conformance/adapters/controller")
-        self.printed(mine[0], MISTAKE, mine[1])
-        # the run of the cases ends with status 1, as some fail
-        for command in block_of("conformance/run --quiet --transcripts"):
-            told = self.printed(command).splitlines()
-        due = next(line for line in re.findall(r"`(fail suspend-behind-error at 253: [^`]*since[^`]*)`", PAGE))
-        self.assertIn(due, told)
+        for begin in ("$ cp -r conformance/adapters/controller", "$ sed"):
+            self.printed(walked(block_of(begin))[0])
+        self.walk("$ conformance/run --quiet --transcripts")
+
+    def test_the_case_is_one(self) -> None:
+        """The case that the page shows can be read."""
+        self.assertEqual(len(read_document("\n".join(block_of("[[case]]")))[0]), 1)
+
+
+if __name__ == "__main__":
+    unittest.main()

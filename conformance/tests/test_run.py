@@ -1,4 +1,4 @@
-"""Tests of the runner's command: whole runs on adapters of a few lines."""
+"""Tests of conformance/run: whole runs with adapters of a few lines."""
 
 from __future__ import annotations
 
@@ -12,7 +12,7 @@ import xml.etree.ElementTree as ET
 TOP = os.path.dirname(os.path.dirname(os.path.realpath(__file__)))
 TRANSCRIPTS = os.path.join(TOP, "transcripts")
 
-# Drives nothing, and answers with line ends of two bytes.
+# Drives nothing, and ends its lines with two bytes.
 SILENT = """
 import sys
 def say(text):
@@ -49,7 +49,7 @@ class Runs(unittest.TestCase):
         self.assertEqual((run.returncode, run.stdout.splitlines()[-1]), (3, "passed 0 failed 0 void 3 skipped 0 of 3"))
 
     def test_a_run_that_compares_nothing_does_not_pass(self) -> None:
-        """All cases are skipped, or no transcript is expected; but a run that only writes transcripts plays alone."""
+        """All cases are skipped, or none has an expected transcript. A run that only writes transcripts is good."""
         skipping = ["sh", "-c", "printf 'can-kit 1 none\nskip all\n'; cat > /dev/null"]
         silent = [sys.executable, "-c", SILENT]
         elsewhere = ["--expect", os.path.join(TOP, "transcripts", "rx-dlc.toml")]
@@ -68,7 +68,7 @@ class Runs(unittest.TestCase):
             self.assertEqual((run.returncode, run.stderr), (status, told if status else ""))
 
     def test_wrong_uses(self) -> None:
-        """A run of no case doesn't pass, and no option ends in a stack of calls."""
+        """A run without cases does not pass, and no wrong option ends in a stack trace."""
         nowhere = self.path("nowhere/told")
         wrong = (
             (["--only", "no-such"], "there are no cases whose names begin with no-such"),
@@ -83,7 +83,7 @@ class Runs(unittest.TestCase):
             self.assertEqual((run.returncode, run.stdout, run.stderr), (2, "", f"run: {told}\n"))
 
     def test_a_report_in_xml(self) -> None:
-        """An adapter's own words are in it, with marks in the place of what XML has no letters for."""
+        """It has the adapter's own words, with question marks for characters that XML does not have."""
         command = ["sh", "-c", "printf 'error \\001 <why>\\n'"]
         self.run_kit(["--only", "rx-dlc-data-0", "--junit", self.path("report.xml")], command)
         suite = ET.parse(self.path("report.xml")).getroot()[0]

@@ -18,7 +18,10 @@ SONAME = f"libriddlesage.so.{VERSION.split('.')[0]}"
 # Files that are useful without the repository, and those of them that are not: tests.
 BINDINGS = ("bindings/examples", "bindings/rust", "bindings/sv", "bindings/verilog", "bindings/vhdl")
 SHARED = ("conformance", "equivalence", "examples", *BINDINGS)
-OF_THE_REPOSITORY = ("check", "record", "mechanical", "mutants", "mistakes", "peer", "peers", "tests", ".clang-tidy")
+OF_THE_REPOSITORY = (
+    *("check", "record", "mechanical", "mutants", "mutations", "mistakes"),
+    *("peer", "peers", "tests", ".clang-tidy"),
+)
 # The files of the circuit, and the arguments with which cangates writes each.
 CIRCUIT = {"v": ["verilog"], "aag": ["aiger"], "aig": ["aiger", "--binary"]}
 LGPL = pathlib.Path("/usr/share/common-licenses/LGPL-2.1")

@@ -1,4 +1,4 @@
-r"""A classical CAN controller at whole bit times, as a golden model (Bosch CAN 2.0 part B, ISO 11898-1).
+r"""A reference model of a classical CAN controller, bit by bit (Bosch CAN 2.0 part B, ISO 11898-1).
 
     >>> from riddlesage import Frame, Port, encode
     >>> sender, receiver = Port(), Port()
@@ -10,11 +10,13 @@ r"""A classical CAN controller at whole bit times, as a golden model (Bosch CAN 
     >>> receiver.log
     [Entry(frame=Frame(identifier=291, data=b'\xaaU', extended=False, remote=False, dlc=2), sent=False)]
 
-Levels are numbers: 0 is dominant, 1 recessive, and many of them are `bytes`. `play` runs ports on a bus
-with disturbances by one call; a `Bus` has ports, or devices of one's own, on such a wire. The calls are those of
-riddlesage.h, over `libriddlesage.so`, which is looked for at the environment variable RIDDLESAGE_LIBRARY, then in this
-package and beside it, then where bindings/build puts it, and then where the system has its libraries. What each call
-does is proved; this package is not.
+A `Port` is a CAN node: a controller with a transmit queue and a log. One step is one bit time; bit timing and CAN FD
+are not modelled. Levels are bit values: 0 is dominant, 1 recessive; lists of them are `bytes`. `play` runs ports on a
+bus with one call, and injects bit errors. On a `Bus`, controllers of your own may take part as well.
+
+The calls are those of riddlesage.h, in `libriddlesage.so`. It is searched for at the environment variable
+RIDDLESAGE_LIBRARY; without that in this package and beside it, in bindings/out, and among the system's libraries. The
+Rattle functions that its calls use are proved; this package is only tested.
 """
 
 from __future__ import annotations

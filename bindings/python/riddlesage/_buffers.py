@@ -1,4 +1,4 @@
-"""The bytes that the library reads and writes, where they stand: long ones are not copied for a call."""
+"""Access to the bytes that the library reads and writes, in place: long ones are not copied for a call."""
 
 from __future__ import annotations
 
@@ -10,7 +10,7 @@ from typing import Union
 
 # Bytes in memory that a call reads.
 Buffer = Union[bytes, bytearray, memoryview]
-# How ctypes is told where bytes stand.
+# An address of bytes, as ctypes takes it.
 Address = Union[bytes, ctypes.c_char_p]
 
 
@@ -28,7 +28,7 @@ class _View(ctypes.Structure):
     )
 
 
-# A buffer in one piece, that may be read only.
+# A contiguous buffer, which may be read-only.
 _SIMPLE = 0
 
 _get_buffer = ctypes.pythonapi.PyObject_GetBuffer
@@ -43,7 +43,7 @@ _utf8_of.restype = ctypes.c_void_p
 
 
 def is_whole(given: object) -> bool:
-    """Whether this is a buffer of bytes in one piece."""
+    """Whether this is a contiguous buffer of bytes."""
     try:
         view = memoryview(given)  # type: ignore[arg-type]
     except TypeError:
@@ -54,9 +54,9 @@ def is_whole(given: object) -> bool:
 
 @contextlib.contextmanager
 def bytes_at(given: Buffer) -> Iterator[tuple[Address, int]]:
-    """Where the bytes of a buffer stand, and how many there are. They can't be moved meanwhile, and must not change.
+    """The address of the bytes of a buffer, and their number. Until it exits they cannot move, and must not change.
 
-    What is no buffer of bytes in one piece is copied, as by `bytes`.
+    Anything but a contiguous buffer of bytes is copied with `bytes`.
     """
     count = len(given)
     if isinstance(given, bytes) or count == 0 or not is_whole(given):
@@ -72,7 +72,7 @@ def bytes_at(given: Buffer) -> Iterator[tuple[Address, int]]:
 
 @contextlib.contextmanager
 def text_at(given: str) -> Iterator[tuple[Address, int]]:
-    """Where the bytes of a text stand, in UTF-8, and how many there are. A text that is not all ASCII is copied."""
+    """The address of a text in UTF-8, and its length in bytes. A text that is not all ASCII is copied."""
     if not given.isascii():
         document = given.encode("utf-8")
         yield document, len(document)
@@ -83,13 +83,13 @@ def text_at(given: str) -> Iterator[tuple[Address, int]]:
 
 
 class Room:
-    """Room for so many bytes, `at` which the library writes them."""
+    """A buffer of `count` bytes; the library writes them at `at`."""
 
     def __init__(self, count: int) -> None:
         self._bytes = io.BytesIO(bytes(count))
         self.at = (ctypes.c_char * count).from_buffer(self._bytes.getbuffer())
 
     def filled(self) -> bytes:
-        """The bytes, as they stand there. Nothing more may be written."""
+        """The bytes that were written. Nothing more may be written."""
         del self.at
         return self._bytes.getvalue()

@@ -1,4 +1,4 @@
-"""Ports and other devices on one wire, with offers at their times and disturbances."""
+"""A bus of ports and other controllers, with frames queued at their times and injected bit errors."""
 
 from __future__ import annotations
 
@@ -13,26 +13,26 @@ from riddlesage._library import HitKind, PlainHit, PlainWire, lib
 from riddlesage._play import count_in
 from riddlesage._ports import Event, Told
 
-# It is called in each bit time, with arguments that are of the right types.
+# It is called in each bit time, so its arguments have the right types already.
 _step = lib.riddlesage_wire_step
 _UNKNOWN = -1
 
 
 class Device(Protocol):
-    """What may be on a bus: a Port, or a controller of one's own with these calls."""
+    """A node of a bus: a Port, or a controller of your own with these calls."""
 
     def offer(self, frame: Frame, /) -> None:
-        """Takes a frame to be sent, from this bit time on."""
+        """Queues a frame for transmission, from this bit time on."""
 
     def drive(self) -> int:
-        """The level that it drives in this bit time, 0 or 1. What it has sampled before decides that."""
+        """Returns the level that it drives in this bit time, 0 or 1. It depends on earlier samples alone."""
 
     def sample(self, level: int, /) -> Told | None:
-        """Takes the level that it sees in this bit time, and tells what it brought, if it tells that."""
+        """Samples the level that it sees in this bit time, and returns the event, if it reports one."""
 
 
 class Happened(NamedTuple):
-    """What a bit time brought to one device of a bus."""
+    """An event of one device of a bus: the bit time, the device's index, the event, and its frame if it has one."""
 
     time: int
     place: int
@@ -41,7 +41,7 @@ class Happened(NamedTuple):
 
 
 class Bus:
-    """A wire: dominant where a device drives dominant, and inverted where it is hit.
+    """A bus: dominant if any device drives dominant, and inverted if a hit (a bit error) falls on it.
 
         >>> from riddlesage import Bus, Frame, Port
         >>> bus = Bus(Port(), Port())
@@ -54,9 +54,9 @@ class Bus:
         83 1 RECEIVED
         84 0 SENT
 
-    Bit times count from 0, devices in the order in which they are given. What a bit time is made of, and in which order
-    it is disturbed, is docs/BUS.md's. The wire is the library's, as its ports are: only when each device is called is
-    said here. A hit may be asked for at any time; one that lies in the past doesn't fall any more.
+    Bit times count from 0, and so do devices, in the order in which they are given. docs/BUS.md defines a bit time. The
+    library computes the levels of the bus; this class calls the devices. A hit may be added at any time; in the past it
+    has no effect.
     """
 
     def __init__(self, *devices: Device) -> None:
@@ -68,7 +68,7 @@ class Bus:
 
     @property
     def devices(self) -> Sequence[Device]:
-        """The devices on the wire."""
+        """The devices on the bus."""
         return self._devices
 
     @property
@@ -78,13 +78,13 @@ class Bus:
 
     @property
     def levels(self) -> bytes:
-        """The levels of the wire so far, one for each bit time."""
+        """The levels of the bus so far, one per bit time."""
         return bytes(self._levels)
 
     def offer(self, place: int, frame: Frame, time: int | None = None) -> None:
-        """Offers a frame to a device before a bit time, or before the next one.
+        """Queues a frame at a device, before bit time `time`, or without it before the next one.
 
-        Offers for one bit time are made in the order of these calls; those for a time that has passed, before the next.
+        Frames of one bit time are queued in the order of these calls; those of a time in the past, before the next one.
         """
         place = self._place(place)
         due = self.time if time is None else operator.index(time)
@@ -92,22 +92,25 @@ class Bus:
         self._offered += 1
 
     def hit_at(self, time: int) -> None:
-        """Has the level of the wire inverted in a bit time."""
+        """Injects a bit error for all devices: the level of the bus is inverted in bit time `time`."""
         time = count_in(time)
         self._wire.hit_at(time, PlainHit(time=time, kind=HitKind.AT))
 
     def hit_in(self, attempt: int, offset: int) -> None:
-        """Has it inverted so many bit times behind the start of an attempt at a frame, both counted from 0."""
+        """Injects a bit error for all devices, `offset` bit times after the start of transmission attempt `attempt`.
+
+        Attempts count from 0. There is no error if a later attempt has begun by then.
+        """
         attempt = count_in(attempt)
         self._wire.hit_in(attempt, PlainHit(attempt=attempt, offset=count_in(offset), kind=HitKind.IN))
 
     def view(self, time: int, place: int) -> None:
-        """Has one device see the inverse of the wire in a bit time."""
+        """Injects a bit error for one device: it samples the inverse of the bus level in bit time `time`."""
         time = count_in(time)
         self._wire.hit_at(time, PlainHit(time=time, port=self._place(place), kind=HitKind.VIEW))
 
     def step(self, level: int = RECESSIVE) -> list[Happened]:
-        """One bit time, in which a tester drives this level too; gives what it brought."""
+        """Passes one bit time, in which a tester drives `level` too. Returns the events."""
         time, place, drives = len(self._levels), 0, self._wire.drives
         while self._offers and self._offers[0][0] <= time:
             _, _, to, frame = heapq.heappop(self._offers)
@@ -131,18 +134,18 @@ class Bus:
         return happened
 
     def run(self, bits: int) -> list[Happened]:
-        """So many bit times; gives what they brought."""
+        """Passes `bits` bit times. Returns their events."""
         return [told for _ in range(bits) for told in self.step()]
 
     def _place(self, place: int) -> int:
         place = operator.index(place)
         if not 0 <= place < len(self._devices):
-            raise ValueError(f"there is no device {place}")
+            raise ValueError(f"there is no device {place}: the bus has {len(self._devices)}, counted from 0")
         return place
 
 
 class _Wire:
-    """The wire of the library. It has what each drives and sees, the tester last, and all hits."""
+    """The library's bus without its nodes: the levels that each drives and samples, the tester last, and all hits."""
 
     def __init__(self, count: int) -> None:
         self.drives, self.seen = bytearray(count), bytearray(count)
@@ -152,25 +155,24 @@ class _Wire:
         self._behind = ctypes.byref(self._level), seen
         self._timed: dict[int, list[PlainHit]] = {}
         self._inside: dict[int, list[PlainHit]] = {}
-        # the hits that may fall until another attempt begins than had by then, and the arguments of a call with them
+        # the hits of attempts that may occur before the number of attempts changes, and a call's arguments with them
         self._begun = _UNKNOWN
         self._lasting: list[PlainHit] = []
         self._call = self._arguments([])
 
     def hit_at(self, time: int, hit: PlainHit) -> None:
-        """Adds a hit of a bit time."""
+        """Adds a hit in a bit time."""
         self._timed.setdefault(time, []).append(hit)
 
     def hit_in(self, attempt: int, hit: PlainHit) -> None:
-        """Adds one of an attempt."""
+        """Adds a hit in an attempt."""
         self._inside.setdefault(attempt, []).append(hit)
         self._begun = _UNKNOWN
 
     def step(self, time: int) -> int:
-        """Passes the next bit time, which is this one, and gives the level.
+        """Passes the next bit time, `time`, and returns the level of the bus.
 
-        Of however many hits the library is handed those of this bit time, of the latest attempt, and of the one that
-        may begin.
+        The library gets only the hits of this bit time, of the latest attempt, and of the one that may begin.
         """
         begun = self._plain.attempts
         if begun != self._begun:

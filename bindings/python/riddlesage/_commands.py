@@ -1,4 +1,4 @@
-"""What the package's commands have in common: how they read files, refuse lines, and end."""
+"""Common to the package's commands: reading files, refusing lines, exit statuses."""
 
 from __future__ import annotations
 
@@ -8,7 +8,7 @@ import sys
 from collections.abc import Callable, Iterator
 from typing import BinaryIO, NoReturn
 
-# So many refused lines of a file are told one by one.
+# The most refused lines of a file that are reported one by one.
 _TOLD = 20
 
 
@@ -26,7 +26,7 @@ class Refusals:
             print(f"{self.file}:{line}: {why}", file=sys.stderr)
 
     def end(self) -> int:
-        """Tells how many more were refused than were told, and gives the status: 1 where any was."""
+        """Reports how many more lines were refused, and returns the exit status: 1 if any was."""
         if self.count > _TOLD:
             print(f"{self.file}: and {self.count - _TOLD} more lines", file=sys.stderr)
         return 1 if self.count else 0
@@ -43,14 +43,14 @@ def opened(file: str) -> Iterator[BinaryIO]:
 
 
 def lines_of(file: str) -> Iterator[tuple[int, str]]:
-    """Each line of a file of ASCII with its number, without its end. What is no ASCII is in no line that is read."""
+    """Each line of an ASCII file with its number, without its line end. A line with other bytes cannot be read."""
     with opened(file) as given:
         for number, line in enumerate(given, 1):
             yield number, line.decode("ascii", "replace").rstrip("\r\n")
 
 
 def end_with(main: Callable[[], int]) -> NoReturn:
-    """Runs a command, and ends with its status: 2 where a file can't be read, 1 where nobody reads its output."""
+    """Runs a command, and exits with its status: 2 if a file cannot be read, 1 if nobody reads its output any more."""
     try:
         status = main()
         sys.stdout.flush()

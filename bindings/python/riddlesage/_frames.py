@@ -1,4 +1,4 @@
-"""Frames, their coding, and what is refused."""
+"""Frames, encoding and decoding, and the errors of the package."""
 
 from __future__ import annotations
 
@@ -17,7 +17,7 @@ _MOST_LEVELS = 157
 
 
 class Status(enum.IntEnum):
-    """What a call of the library answers."""
+    """The result of a call of the library."""
 
     OK = 0
     NULL_POINTER = 1
@@ -47,36 +47,71 @@ class Status(enum.IntEnum):
     BAD_WIRE = 25
 
 
+# What each status says, after its name.
+_MEANINGS = {
+    Status.NULL_POINTER: "a pointer is NULL",
+    Status.MOVED: "the port is not at the address at which it was made",
+    Status.NO_PORT: "the port is closed",
+    Status.NO_MEMORY: "there is no memory",
+    Status.QUEUE_FULL: "the transmit queue is full",
+    Status.NO_ENTRY: "the log has no entry with this number",
+    Status.BAD_FLAG: "extended and remote are 0 or 1",
+    Status.BAD_IDENTIFIER: "0 to 0x7ff, or to 0x1fffffff if it is extended",
+    Status.BAD_DLC: "0 to 15",
+    Status.BAD_LEVEL: "a level is 0 or 1",
+    Status.BAD_COUNT: "0 to 2 overload frames can be requested",
+    Status.NO_LEVELS: "there are no levels to sample",
+    Status.NO_ROOM: "a buffer is too small",
+    Status.SHORT: "the levels end before the frame does",
+    Status.NO_START: "the first level is recessive, so it is no start of frame",
+    Status.STUFF: "stuff error, a sixth equal level in a row",
+    Status.CRC: "the CRC sequence is wrong",
+    Status.FORM: "form error, a bit of fixed form is dominant",
+    Status.BAD_SCENARIO: "the text is not a valid scenario",
+    Status.BAD_BYTE: "a byte of a trace is not a level",
+    Status.BAD_BUS: "a bus has 1 to 64 ports, each once",
+    Status.NO_SUCH_PORT: "an offer or a hit names no port of the bus",
+    Status.BAD_ORDER: "offers or hits are not in order",
+    Status.BAD_KIND: "there is no such kind of hit",
+    Status.BAD_WIRE: "2^64 - 1 bit times have passed",
+}
+
+
+def name_of(status: Status) -> str:
+    """The name of a status, as the library has it."""
+    return status.name.lower().replace("_", " ")
+
+
 class RiddlesageError(Exception):
-    """What all errors of this package are."""
+    """The base class of this package's exceptions."""
 
 
 class Refused(RiddlesageError):
-    """A call was refused, and nothing has changed."""
+    """A call failed, and has changed nothing. `status` says why."""
 
     def __init__(self, status: Status) -> None:
-        super().__init__(status.name.lower().replace("_", " "))
+        super().__init__(f"{name_of(status)}: {_MEANINGS.get(status, 'no error')}")
         self.status = status
 
     def __reduce__(self) -> tuple[type[Refused], tuple[Status]]:
-        """How it is made again, where it is pickled or copied."""
+        """How it is rebuilt when it is unpickled or copied."""
         return type(self), (self.status,)
 
 
 class BadFrame(Refused, ValueError):
-    """What was to be a frame is none: its identifier or its DLC is out of range."""
+    """The fields are those of no frame: identifier or DLC is out of range."""
 
 
 class Fault(RiddlesageError):
-    """Levels begin with no frame. `place` levels stand before the first one that is wrong."""
+    """The levels begin with no frame. `place` levels come before the first wrong one."""
 
     def __init__(self, status: Status, place: int) -> None:
-        super().__init__(f"{status.name.lower().replace('_', ' ')} at {place}")
+        super().__init__(f"{name_of(status)} at {place}: {_MEANINGS.get(status, 'no error')}")
         self.status = status
         self.place = place
 
     def __reduce__(self) -> tuple[type[Fault], tuple[Status, int]]:
-        """How it is made again, where it is pickled or copied."""
+        """How it is rebuilt when it is unpickled or copied."""
         return type(self), (self.status, self.place)
 
     @property
@@ -86,15 +121,15 @@ class Fault(RiddlesageError):
 
 
 def demand(status: int) -> None:
-    """Raises what a status other than OK means."""
+    """Raises Refused for a status other than OK."""
     if status:
         raise Refused(Status(status))
 
 
 def in_range(value: int, bits: int, refusal: Refused) -> int:
-    """The number, where the library's field has so many bits; a field holds no other number.
+    """Returns the number if it fits into a field of `bits` bits, otherwise raises this refusal.
 
-    What is no whole number is a TypeError.
+    Anything but an integer is a TypeError.
     """
     number = operator.index(value)
     if not 0 <= number < 1 << bits:
@@ -106,8 +141,8 @@ def in_range(value: int, bits: int, refusal: Refused) -> int:
 class Frame:
     """A data frame or a remote frame.
 
-    The DLC is the number of data bytes where it is left out, and 0 for a remote frame. What is no frame is a BadFrame,
-    which is a ValueError, and so is data that is not the DLC's.
+    Without `dlc`, the DLC is the number of data bytes; for a remote frame 0. Fields out of range raise BadFrame, a
+    ValueError; data whose length is not that of the DLC, a ValueError. A DLC of 9 to 15 means eight bytes.
     """
 
     identifier: int
@@ -118,30 +153,31 @@ class Frame:
 
     def __post_init__(self) -> None:
         if isinstance(self.data, int):
-            raise TypeError("the data of a frame are bytes, and not a number")
+            raise TypeError("the data of a frame are bytes, not a number")
         object.__setattr__(self, "data", bytes(self.data))
         object.__setattr__(self, "dlc", len(self.data) if self.dlc == -1 else operator.index(self.dlc))
         if len(self.data) != (0 if self.remote else min(self.dlc, 8)):
-            raise ValueError(f"{len(self.data)} data bytes are not those of DLC {self.dlc}")
+            kind = "a remote frame" if self.remote else "a data frame"
+            raise ValueError(f"{kind} with DLC {self.dlc} cannot have {len(self.data)} data bytes")
         encode(self)
 
     @classmethod
     def from_text(cls, text: str) -> Frame:
-        """The frame of a text, as `S 123 D 2 aa55`. What is no such text is a ValueError."""
+        """The frame of a text such as `S 123 D 2 aa55`. Any other text raises ValueError."""
         if not isinstance(text, str):
-            raise TypeError(f"the text of a frame is wanted, and not {type(text).__name__}")
+            raise TypeError(f"expected the text of a frame, got {type(text).__name__}")
         words = text.split(" ", 4)
         if len(words) < 4:
-            raise ValueError(f"this is no frame: {text}")
+            raise ValueError(f"not a frame, such as 'S 123 D 2 aa55': {text}")
         kind, identifier, direction, dlc = words[:4]
         frame = cls(int(identifier, 16), bytes.fromhex("".join(words[4:])), kind == "E", direction == "R", int(dlc))
         if frame.text != text:
-            raise ValueError(f"this is no frame: {text}")
+            raise ValueError(f"not a frame, such as 'S 123 D 2 aa55': {text}")
         return frame
 
     @property
     def text(self) -> str:
-        """The text of the frame, as `S 123 D 2 aa55`."""
+        """The text of the frame, such as `S 123 D 2 aa55`."""
         identifier = f"E {self.identifier:08x}" if self.extended else f"S {self.identifier:03x}"
         data = f" {self.data.hex()}" if self.data else ""
         return f"{identifier} {'R' if self.remote else 'D'} {self.dlc}{data}"
@@ -158,26 +194,29 @@ class Frame:
 
 
 def frame_in(given: Frame) -> Frame:
-    """What was given, where it is a frame."""
+    """The argument, if it is a Frame; otherwise a TypeError."""
     if not isinstance(given, Frame):
-        raise TypeError(f"a Frame is wanted, and not {type(given).__name__}")
+        raise TypeError(f"expected a Frame, got {type(given).__name__}")
     return given
 
 
 def plain_of(frame: Frame) -> PlainFrame:
-    """The frame as it crosses to the library."""
+    """The frame as the library's struct."""
     return frame_in(frame)._plain()
 
 
 def frame_of(plain: PlainFrame) -> Frame:
-    """The frame of what the library wrote."""
+    """The frame of the library's struct."""
     count = 0 if plain.remote else min(plain.dlc, 8)
     return Frame(plain.identifier, bytes(plain.data[:count]), bool(plain.extended), bool(plain.remote), plain.dlc)
 
 
 @dataclass(frozen=True)
 class Heard:
-    """A frame as it was heard: with the levels that a receiver takes at either value, and how many levels it had."""
+    """A frame as received, with the bits for which a receiver accepts either level, and its length in levels.
+
+    `acknowledged` is whether the ACK slot is dominant, `last` the last bit of the end of frame.
+    """
 
     frame: Frame
     acknowledged: bool
@@ -189,7 +228,7 @@ class Heard:
 
 
 def encode(frame: Frame) -> bytes:
-    """The levels of the frame as its sender drives them, from the start of frame to the end of frame."""
+    """Encodes a frame: the levels that its transmitter drives, with stuff bits, the ACK slot recessive (3.2.1, 6)."""
     levels = ctypes.create_string_buffer(_MOST_LEVELS)
     count = ctypes.c_size_t()
     status = lib.riddlesage_encode(plain_of(frame), levels, _MOST_LEVELS, count)
@@ -199,9 +238,9 @@ def encode(frame: Frame) -> bytes:
 
 
 def decode(levels: Buffer) -> Heard:
-    """What is heard of the frame at the front of the levels; or a Fault, with its name and place.
+    """Decodes the frame with which the levels begin. If they begin with none, it raises a Fault, with name and place.
 
-    As many levels are read as the longest frame has, 157: what stands behind these changes nothing.
+    It reads at most the first 157 levels: no frame has more.
     """
     heard, place = PlainHeard(), ctypes.c_size_t()
     status = lib.riddlesage_decode(bytes(levels[:_MOST_LEVELS]), min(len(levels), _MOST_LEVELS), heard, place)

@@ -1,4 +1,4 @@
-"""The shared object, and its calls as riddlesage.h declares them."""
+"""The shared object, with the declarations of riddlesage.h."""
 
 from __future__ import annotations
 
@@ -7,10 +7,10 @@ import enum
 import os
 import pathlib
 
-# The name that the system's loader knows: with the first number of the version.
+# The name for the system's loader: it ends with the major version.
 _SONAME = "libriddlesage.so.0"
 
-# Room for the name of a field of a scenario.
+# The capacity for the name of a field of a scenario.
 FIELD_ROOM = 64
 
 
@@ -106,7 +106,7 @@ def _library() -> ctypes.CDLL:
             return ctypes.CDLL(_SONAME)
         except OSError:
             pass
-    raise ImportError(f"libriddlesage.so is not at {' nor at '.join(map(str, places))}; bindings/build makes it")
+    raise ImportError(f"libriddlesage.so is not at {' nor at '.join(map(str, places))}; bindings/build builds it")
 
 
 lib = _library()
@@ -115,7 +115,7 @@ _PORT = ctypes.POINTER(PlainPort)
 _FRAME = ctypes.POINTER(PlainFrame)
 _U8 = ctypes.POINTER(ctypes.c_uint8)
 _SIZE = ctypes.POINTER(ctypes.c_size_t)
-# What is read, with its length, and the room for a text, with what is taken of it.
+# The input and its length; the buffer for a text, its capacity, and the length of the text.
 _DOCUMENT = (ctypes.c_char_p, ctypes.c_size_t, ctypes.c_char_p, ctypes.c_size_t, _SIZE)
 
 _PARAMETERS = {

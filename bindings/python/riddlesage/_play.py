@@ -1,4 +1,4 @@
-"""Ports on a bus, run by one call of the library."""
+"""A bus of ports that runs with one call of the library."""
 
 from __future__ import annotations
 
@@ -15,7 +15,7 @@ from riddlesage._ports import Port
 
 
 class Played(NamedTuple):
-    """The levels of the wire, one for each bit time, and how many of the offered frames a full queue refused."""
+    """The levels of the bus, one per bit time, and how many of the offered frames a full queue refused."""
 
     levels: bytes
     refused: int
@@ -30,7 +30,7 @@ def play(
     hit_in: Iterable[tuple[int, int]] = (),
     view: Iterable[tuple[int, int]] = (),
 ) -> Played:
-    """Runs 1 to 64 ports on a bus for so many bit times, by one call that is proved whole.
+    """Runs a bus of 1 to 64 ports for `bits` bit times with one call of the library.
 
         >>> from riddlesage import Frame, Port, play
         >>> ports = Port(), Port()
@@ -38,10 +38,11 @@ def play(
         >>> played.levels.index(0), played.refused, ports[0].counters.transmit, len(ports[1].log)
         (5, 0, 7, 1)
 
-    An offer is a time, the place of a port and a frame. `hit_at` has times, `hit_in` attempts with offsets, and `view`
-    times with places, as the calls of these names that a Bus has. Bit times and attempts count from 0, from this call
-    on; before it the wire counts as recessive. The ports go on from where they stand, and stand where they are behind
-    it. What is refused changes none of them.
+    An offer is a time, the index of a port and a frame, which is queued before that bit time. The others are injected
+    bit errors: `hit_at` has times, `hit_in` attempts with offsets, `view` times with indices of ports, as the calls of
+    these names of a Bus. Bit times and attempts count from 0 within this call; before it the bus counts as recessive
+    for eleven bit times. The ports continue from their present state, and keep the state that they reach. If the call
+    fails, none of them has changed.
     """
     _demand_bus(ports)
     given = _plain_offers(offers)
@@ -49,7 +50,7 @@ def play(
     length, refused = count_in(bits), ctypes.c_size_t()
     levels = Room(length)
     with contextlib.ExitStack() as held:
-        # in one order, so that two threads never wait for each other
+        # always in the same order, so that two threads never wait for each other
         for port in sorted(ports, key=id):
             held.enter_context(port._lock)
         status = lib.riddlesage_play(
@@ -70,16 +71,16 @@ def play(
 
 
 def _demand_bus(ports: Sequence[Port]) -> None:
-    """Refuses what is no port, and a bus on which a port stands twice."""
+    """Refuses anything but a Port, and a bus that has a port twice."""
     for port in ports:
         if not isinstance(port, Port):
-            raise TypeError(f"a Port is wanted, and not {type(port).__name__}")
+            raise TypeError(f"expected a Port, got {type(port).__name__}")
     if len({id(port) for port in ports}) < len(ports):
         raise Refused(Status.BAD_BUS)
 
 
 def _plain_offers(offers: Iterable[tuple[int, int, Frame]]) -> list[PlainOffer]:
-    """The offers in the order of their times; those of one time as they came."""
+    """The offers in the order of their times; those of one time in their given order."""
     given = [PlainOffer(count_in(time), _place(place), plain_of(frame)) for time, place, frame in offers]
     return sorted(given, key=lambda offer: int(offer.time))
 
@@ -87,7 +88,7 @@ def _plain_offers(offers: Iterable[tuple[int, int, Frame]]) -> list[PlainOffer]:
 def _plain_hits(
     hit_at: Iterable[int], hit_in: Iterable[tuple[int, int]], view: Iterable[tuple[int, int]]
 ) -> list[PlainHit]:
-    """The three lists of hits behind each other, each in order and without what stands in it twice."""
+    """The three lists of hits one after another, each in order and without duplicates."""
     hits = [PlainHit(time=time, kind=HitKind.AT) for time in sorted({count_in(time) for time in hit_at})]
     inside = sorted({(count_in(attempt), count_in(offset)) for attempt, offset in hit_in})
     hits += [PlainHit(attempt=attempt, offset=offset, kind=HitKind.IN) for attempt, offset in inside]
@@ -99,7 +100,7 @@ def count_in(value: int) -> int:
     """A time, an attempt or an offset."""
     number = operator.index(value)
     if not 0 <= number < 1 << 64:
-        raise ValueError(f"{number} is no count of bit times or attempts")
+        raise ValueError(f"{number} is not a number of bit times or attempts, 0 to 2^64 - 1")
     return number
 
 

@@ -1,4 +1,4 @@
-"""Ports, and what they tell."""
+"""Ports, and the values that they return."""
 
 from __future__ import annotations
 
@@ -14,14 +14,14 @@ from riddlesage._buffers import Buffer, Room, bytes_at
 from riddlesage._frames import Frame, Refused, Status, demand, frame_of, in_range, plain_of
 from riddlesage._library import PlainFrame, PlainPort, PlainStanding, lib
 
-# These two are called in each bit time. Their arguments are made once for each port, as the right types, so that no
-# call has to convert them.
+# These two are called in each bit time. Their arguments are made once per port, with the right types, so that no call
+# has to convert them.
 _drive = lib.riddlesage_port_drive
 _sample = lib.riddlesage_port_sample
 
 
 class Event(enum.IntEnum):
-    """What a bit time brings to a port."""
+    """The event of a bit time, as a port reports it. riddlesage.h describes each."""
 
     NOTHING = 0
     SENT = 1
@@ -38,7 +38,7 @@ class Event(enum.IntEnum):
 
 
 class State(enum.IntEnum):
-    """The state of fault confinement."""
+    """The state of fault confinement (8)."""
 
     ERROR_ACTIVE = 0
     ERROR_PASSIVE = 1
@@ -46,7 +46,7 @@ class State(enum.IntEnum):
 
 
 class Phase(enum.IntEnum):
-    """The phase in which a port is before a bit time."""
+    """The phase of a port before a bit time. riddlesage.h describes each."""
 
     JOINING = 0
     IDLE = 1
@@ -69,7 +69,7 @@ _WITHOUT_PLACES = (Phase.IDLE, Phase.CRC_DELIMITER, Phase.ACK_SLOT, Phase.ACK_DE
 
 
 class Rule(enum.IntEnum):
-    """A rule of docs/ACCESS.md, which decides in a bit time."""
+    """The rule of docs/ACCESS.md that decides in a bit time."""
 
     JOINING = 0
     START_OF_FRAME = 1
@@ -88,7 +88,7 @@ class Rule(enum.IntEnum):
 
 
 class Standing(NamedTuple):
-    """Where a port stands before a bit time: how much of its phase has come, and the rule that decides in it."""
+    """The protocol state of a port before a bit time: phase, progress within it, role, and the rule that decides."""
 
     phase: Phase
     place: int
@@ -96,7 +96,7 @@ class Standing(NamedTuple):
     rule: Rule
 
     def __str__(self) -> str:
-        """As a verdict of canhold has it: `active-flag 3, receiver; Error flags`."""
+        """The text of a verdict of canhold: `active-flag 3, receiver; Error flags`."""
         phase = self.phase.name.lower().replace("_", "-")
         place = "" if self.phase in _WITHOUT_PLACES else f" {self.place}"
         rule = self.rule.name.replace("_", " ").capitalize()
@@ -104,49 +104,52 @@ class Standing(NamedTuple):
 
 
 class Told(NamedTuple):
-    """What a bit time brought; the frame where one was sent or received."""
+    """The event of a bit time, and the frame if one was sent or received."""
 
     event: Event
     frame: Frame | None = None
 
 
 class Entry(NamedTuple):
-    """A frame in a port's log: whether the port sent it, or received it."""
+    """An entry of a port's log: a frame, and whether the port sent or received it."""
 
     frame: Frame
     sent: bool
 
 
 class Counters(NamedTuple):
-    """The transmit and the receive error counter."""
+    """The error counters (8): TEC, 0 to 263, and REC, 0 to 255."""
 
     transmit: int
     receive: int
 
 
 class Run(NamedTuple):
-    """Bit times of a port: the level that it drove in each, and the number of what each brought."""
+    """The result of Port.run: for each bit time the level that the port drove, and the number of its event."""
 
     drives: bytes
     events: bytes
 
     def told(self) -> Iterator[tuple[int, Event]]:
-        """Gives each bit time that brought something, with what it brought."""
+        """Returns each bit time that has an event, with the event."""
         return ((time, Event(code)) for time, code in enumerate(self.events) if code)
 
 
 class Port:
-    """A controller with a queue of frames to send and a log of the frames that were on the bus.
+    """A CAN node: a controller with a transmit queue, and a log of the frames that it has sent and received.
 
-    Threads may share a port: each call waits until that of another thread has ended. A port is copied by `copy` alone,
-    and not pickled.
+    Threads may share a port: each call waits until that of another thread has ended. Only `copy` copies a port; it
+    cannot be pickled.
     """
 
     def __init__(self, queue: int = 16, log: int = 64, *, joining: bool = False) -> None:
-        """Makes a port with so much room, on the bus and idle, or `joining`: it waits for eleven recessive levels."""
+        """Makes a port that is on the bus and idle; if `joining`, it first waits for eleven recessive levels in a row.
+
+        `queue` is the capacity of its transmit queue in frames, `log` that of its log in entries.
+        """
         rooms = operator.index(queue), operator.index(log)
         if min(rooms) < 0:
-            raise ValueError("a port has no negative room")
+            raise ValueError("the capacity of queue or log cannot be negative")
         if max(rooms) >= 1 << 63:
             raise MemoryError
         self._lock = threading.Lock()
@@ -166,7 +169,7 @@ class Port:
         demand(status)
 
     def copy(self) -> Port:
-        """Makes a port that is what this one is, and does the same from then on."""
+        """Copies the port: from then on the copy behaves as this one does."""
         port = Port(0, 0)
         with self._lock:
             status = lib.riddlesage_port_copy(port._port, self._port)
@@ -176,7 +179,7 @@ class Port:
         return port
 
     def close(self) -> None:
-        """Frees the port. Further calls are refused, but for this one."""
+        """Frees the port. Any other call raises Refused afterwards."""
         with self._lock:
             demand(lib.riddlesage_port_free(self._port))
 
@@ -196,23 +199,23 @@ class Port:
             lib.riddlesage_port_free(self._port)
 
     def __reduce__(self) -> NoReturn:
-        """A port stays where it was made."""
-        raise TypeError("a port is copied by its method copy, and not pickled")
+        """A port has to stay at its address."""
+        raise TypeError("a Port cannot be pickled; its method copy copies it")
 
     def offer(self, frame: Frame) -> None:
-        """Offers a frame, which waits behind those that were offered before."""
+        """Queues a frame for transmission."""
         plain = plain_of(frame)
         with self._lock:
             demand(lib.riddlesage_port_offer(self._port, plain))
 
     def hold(self, count: int) -> None:
-        """Asks for so many overload frames of the port's own, 0 to 2, in place of an earlier wish."""
+        """Requests 0 to 2 overload frames, in place of an earlier request (3.2.4)."""
         wish = in_range(count, 8, Refused(Status.BAD_COUNT))
         with self._lock:
             demand(lib.riddlesage_port_hold(self._port, wish))
 
     def drive(self) -> int:
-        """Tells the level that the port drives in this bit time. The port stays as it is."""
+        """Returns the level that the port drives in this bit time. The port does not change."""
         with self._lock:
             status = _drive(*self._drive_arguments)
             level = self._level.value
@@ -221,7 +224,7 @@ class Port:
         return level
 
     def sample(self, level: int) -> Told | None:
-        """Samples the level that the bus has in this bit time, and tells what it brought, if anything."""
+        """Passes one bit time: samples the level of the bus, and returns the event, if there is one."""
         if level != 0 and level != 1:
             raise Refused(Status.BAD_LEVEL)
         with self._lock:
@@ -233,9 +236,9 @@ class Port:
         return Told(Event(code), frame) if code else None
 
     def run(self, levels: Buffer) -> Run:
-        """Samples these levels, one a bit time, whatever the port drives.
+        """Samples these levels, one per bit time, whatever the port drives.
 
-        They are read where they stand: no other thread may write to them meanwhile.
+        They are read in place: no other thread may write to them during the call.
         """
         with bytes_at(levels) as (at, count):
             drives, events = Room(count), Room(count)
@@ -245,7 +248,7 @@ class Port:
 
     @property
     def counters(self) -> Counters:
-        """The error counters."""
+        """The error counters, TEC and REC."""
         transmit, receive = ctypes.c_uint16(), ctypes.c_uint16()
         with self._lock:
             demand(lib.riddlesage_port_counters(self._port, transmit, receive))
@@ -253,7 +256,7 @@ class Port:
 
     @property
     def state(self) -> State:
-        """The state of fault confinement."""
+        """The state of fault confinement (8)."""
         state = ctypes.c_uint8()
         with self._lock:
             demand(lib.riddlesage_port_state(self._port, state))
@@ -261,7 +264,7 @@ class Port:
 
     @property
     def phase(self) -> Standing:
-        """Where the port stands before the next bit time, and the rule that decides there."""
+        """The phase of the port before the next bit time, and the rule that decides in it."""
         plain = PlainStanding()
         with self._lock:
             demand(lib.riddlesage_port_phase(self._port, plain))
@@ -269,7 +272,7 @@ class Port:
 
     @property
     def missed(self) -> int:
-        """How many entries the log had no room for."""
+        """The number of entries for which the log had no capacity."""
         count = ctypes.c_uint32()
         with self._lock:
             demand(lib.riddlesage_port_missed(self._port, count))
@@ -284,7 +287,7 @@ class Port:
         return [self.entry(number) for number in range(count.value)]
 
     def entry(self, number: int) -> Entry:
-        """The entry of the log with this number, the oldest having 0."""
+        """The entry of the log with this number, the oldest being 0."""
         frame, sent = PlainFrame(), ctypes.c_uint8()
         place = in_range(number, 64, Refused(Status.NO_ENTRY))
         with self._lock:

@@ -1,4 +1,4 @@
-"""Scenarios and traces, as canbit runs and decodes them."""
+"""Simulation of scenarios and decoding of traces, as canbit does them."""
 
 from __future__ import annotations
 
@@ -9,37 +9,38 @@ from riddlesage._buffers import Address, Buffer, bytes_at, is_whole, text_at
 from riddlesage._frames import RiddlesageError, Status, demand
 from riddlesage._library import FIELD_ROOM, lib
 
-# Room that most texts have enough of.
+# The first capacity for a text, which suffices for most.
 _ROOM = 1 << 16
 
 
 class BadScenario(RiddlesageError, ValueError):
-    """A text says no scenario. `field` is the first one that is wrong, as `port[0].log`."""
+    """A text is not a valid scenario. `field` is the first one that is wrong, such as `port[0].log`."""
 
     def __init__(self, field: str) -> None:
-        super().__init__(f"bad scenario: {field}")
+        why = "not a valid TOML document" if field == "toml" else "missing, unknown or not a valid value"
+        super().__init__(f"bad scenario: {field}: {why}")
         self.field = field
 
     def __reduce__(self) -> tuple[type[BadScenario], tuple[str]]:
-        """How it is made again, where it is pickled or copied."""
+        """How it is rebuilt when it is unpickled or copied."""
         return type(self), (self.field,)
 
 
 class BadByte(RiddlesageError, ValueError):
-    """A trace has something that is no level. `place` bytes stand before it; `lines` are those of the levels there."""
+    """A trace has a byte that is not a level. `place` bytes come before it; `lines` are those of the levels there."""
 
     def __init__(self, place: int, lines: list[str]) -> None:
-        super().__init__(f"bad byte at {place}")
+        super().__init__(f"bad byte at {place}: it is not a level")
         self.place = place
         self.lines = lines
 
     def __reduce__(self) -> tuple[type[BadByte], tuple[int, list[str]]]:
-        """How it is made again, where it is pickled or copied."""
+        """How it is rebuilt when it is unpickled or copied."""
         return type(self), (self.place, self.lines)
 
 
 def _written(call: Callable[..., int], document: Address, length: int, told: object) -> tuple[Status, str]:
-    """What a call answers of a document, and the text that it writes, once there is room for it."""
+    """The status of a call and the text that it writes, with a larger buffer if the first is too small."""
     room, count = _ROOM, ctypes.c_size_t()
     while True:
         text = ctypes.create_string_buffer(room)
@@ -52,14 +53,14 @@ def _written(call: Callable[..., int], document: Address, length: int, told: obj
 
 
 def _buffer(given: Buffer) -> Buffer:
-    """What has bytes, as a buffer."""
+    """The argument as a buffer of bytes."""
     if isinstance(given, int):
-        raise TypeError("a text or bytes are wanted, not a number")
+        raise TypeError("expected a text or bytes, got a number")
     return given if is_whole(given) else bytes(given)
 
 
 def run(scenario: str | Buffer) -> str:
-    """Runs a scenario, a document in TOML, and gives its report: what `canbit run` writes."""
+    """Simulates a scenario, a TOML document, and returns its report: the output of `canbit run`."""
     field = ctypes.create_string_buffer(FIELD_ROOM)
     with text_at(scenario) if isinstance(scenario, str) else bytes_at(_buffer(scenario)) as (document, length):
         status, report = _written(lib.riddlesage_run, document, length, field)
@@ -70,9 +71,9 @@ def run(scenario: str | Buffer) -> str:
 
 
 def decode_trace(trace: str | Buffer) -> list[str]:
-    """Finds the frames and the faults in a trace, and gives a line for each: those that `canbit decode` writes.
+    """Decodes a trace, and returns a line for each frame and each fault: the output of `canbit decode`.
 
-    A `str` is a text of `0` and `1`, with blanks and line ends; `bytes` are levels, 0 and 1.
+    A `str` is a text of `0` and `1`, with spaces and line ends; `bytes` are levels, 0 and 1.
     """
     place = ctypes.c_size_t()
     if isinstance(trace, str):

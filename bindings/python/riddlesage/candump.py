@@ -1,7 +1,7 @@
-"""The lines of candump, which is of Linux' can-utils, and the frames in them.
+"""Reads and writes the lines of candump, a program of Linux' can-utils.
 
-    python3 -m riddlesage.candump texts [FILE]     candump's lines as frame texts, as `canbit encode` takes them
-    python3 -m riddlesage.candump lines [FILE]     frame texts as candump's lines, as `cansend` takes them
+    python3 -m riddlesage.candump texts [FILE]     converts lines of candump to frame texts, for `canbit encode`
+    python3 -m riddlesage.candump lines [FILE]     converts frame texts to lines of candump, for `cansend`
 
     >>> from riddlesage import Frame
     >>> from riddlesage.candump import read_line, text_of
@@ -10,8 +10,9 @@
     >>> text_of(Frame.from_text("S 123 D 2 ab01"))
     '123#AB01'
 
-A line is one of a log, as above; one of the screen, `vcan0  123   [2]  AB 01`, with what candump's options -a, -t and
--x add; or a frame alone, `123#AB01`. A DLC above 8 is written as can-utils do since 2021, `123#0102030405060708_9`.
+A line is one of a log, as above; or one of the screen, `vcan0  123   [2]  AB 01`, with the additions of candump's
+options -a, -t and -x; or a frame alone, `123#AB01`. A DLC above 8 is written as by can-utils since 2021:
+`123#0102030405060708_9`.
 """
 
 from __future__ import annotations
@@ -43,18 +44,18 @@ _EPOCH = datetime.datetime(1970, 1, 1)
 
 
 class BadLine(RiddlesageError, ValueError):
-    """A line that is none of candump's."""
+    """The line is not one of candump."""
 
 
 class Other(enum.Enum):
-    """What a line may tell of besides a classical frame."""
+    """What a line may report other than a classical frame."""
 
     ERROR = "an error frame"
     FD = "a CAN FD frame"
 
 
 class Line(NamedTuple):
-    """A line: its time in nanoseconds, its channel, and the frame, or what else it tells of."""
+    """A line: its time in nanoseconds, its channel, and the frame, or what else it reports."""
 
     time: int | None
     channel: str
@@ -62,7 +63,7 @@ class Line(NamedTuple):
 
 
 def read_line(line: str) -> Line:
-    """What a line tells. One that can't be read is a BadLine, a ValueError."""
+    """Reads a line. One that cannot be read raises BadLine, a ValueError."""
     line = line.strip()
     found = _LOGGED.fullmatch(line)
     if found:
@@ -70,28 +71,28 @@ def read_line(line: str) -> Line:
     else:
         found = _SHOWN.fullmatch(line)
         if not found:
-            raise BadLine("this is no line of candump")
+            raise BadLine("this is not a line of candump")
         what = _shown_frame(found)
     return Line(_nanoseconds(found["time"]) if found["time"] else None, found["channel"] or "", what)
 
 
 def is_empty(line: str) -> bool:
-    """Whether a line tells nothing by itself: it is blank, or words of candump's option -e on the error frame above."""
+    """Whether a line reports nothing itself: it is empty, or explains an error frame (option -e of candump)."""
     return not line.strip() or line.startswith("\t")
 
 
 def text_of(frame: Frame) -> str:
-    """The frame as in candump's log, `123#AB01`."""
+    """The frame in the format of candump's log, `123#AB01`."""
     identifier = f"{frame.identifier:08X}" if frame.extended else f"{frame.identifier:03X}"
     length = min(frame.dlc, 8)
     content = f"R{length or ''}" if frame.remote else frame.data.hex().upper()
     return f"{identifier}#{content}" + (f"_{frame.dlc:X}" if frame.dlc > length else "")
 
 
-# frames come again and again, and their identifiers and data with them
+# cached, because frames repeat with their identifiers and data
 @functools.lru_cache(maxsize=1 << 16)
 def _read_frame(identifier: str, content: str) -> Frame | Other:
-    """The frame of what stands before and behind the first `#`."""
+    """The frame of the texts before and after the first `#`."""
     if _is_error(identifier):
         return Other.ERROR
     if content.startswith("#"):
@@ -100,13 +101,13 @@ def _read_frame(identifier: str, content: str) -> Frame | Other:
     if remote:
         return _made(identifier, b"", int(remote[2] or remote[1] or "0", 16), True)
     if not data:
-        raise BadLine(f"this is no frame: {identifier}#{content}")
+        raise BadLine(f"this is not a frame: {identifier}#{content}")
     given = bytes.fromhex(data[1].replace(".", ""))
     return _made(identifier, given, int(data[2], 16) if data[2] else len(given), False)
 
 
 def _shown_frame(found: re.Match[str]) -> Frame | Other:
-    """The frame of a line of the screen."""
+    """The frame of a line of candump's screen output."""
     identifier, length, content = found["identifier"], found["length"] or "", found["content"]
     if _is_error(identifier):
         return Other.ERROR
@@ -117,7 +118,7 @@ def _shown_frame(found: re.Match[str]) -> Frame | Other:
         return _made(identifier, b"", dlc, True)
     data = _SHOWN_DATA.fullmatch(content)
     if not data:
-        raise BadLine(f"these are no bytes of data: {content}")
+        raise BadLine(f"these are not data bytes: {content}")
     return _made(identifier, bytes.fromhex(data[1]), dlc, False)
 
 
@@ -129,18 +130,18 @@ def _made(identifier: str, data: bytes, dlc: int, remote: bool) -> Frame:
     try:
         return Frame(int(identifier, 16), data, len(identifier) > 3, remote, dlc)
     except ValueError as refused:
-        raise BadLine(f"this is no frame: {refused}") from refused
+        raise BadLine(f"this is not a frame: {refused}") from refused
 
 
 def _nanoseconds(time: str) -> int:
-    """A time in seconds, or with its date."""
+    """The nanoseconds of a time in seconds, or with its date."""
     found = _SECONDS.fullmatch(time)
     if found:
         return int(found[1]) * 10**9 + int(f"{found[2]:0<9.9}")
     try:
         return (datetime.datetime.fromisoformat(time) - _EPOCH) // datetime.timedelta(microseconds=1) * 1000
     except (ValueError, TypeError) as refused:
-        raise BadLine(f"this is no time: {time}") from refused
+        raise BadLine(f"this is not a time: {time}") from refused
 
 
 def _as_text(line: str) -> str:
@@ -160,14 +161,14 @@ _DIRECTIONS: dict[str, Callable[[str], str]] = {"texts": _as_text, "lines": _as_
 
 
 def main(words: Sequence[str] | None = None) -> int:
-    """Turns each line of a file into its counterpart. One that has none is refused, and the others are written."""
+    """Converts each line of a file. One that cannot be converted is reported, and the others are written."""
     parser = argparse.ArgumentParser(
         prog="python3 -m riddlesage.candump",
-        description="Turns the lines of candump into frame texts, or frame texts into lines of candump.",
-        epilog="A line that can't be turned is told on standard error, and the status is 1 then.",
+        description="Converts lines of candump to frame texts, or frame texts to lines of candump.",
+        epilog="A line that cannot be converted is reported on standard error; then the exit status is 1.",
     )
-    parser.add_argument("into", choices=tuple(_DIRECTIONS), help="S 123 D 2 ab01, or 123#AB01")
-    parser.add_argument("file", metavar="FILE", nargs="?", default="-", help="standard input where there is none")
+    parser.add_argument("into", choices=tuple(_DIRECTIONS), help="texts: S 123 D 2 ab01; lines: 123#AB01")
+    parser.add_argument("file", metavar="FILE", nargs="?", default="-", help="the input; without it standard input")
     options = parser.parse_args(words)
     refusals = Refusals(options.file)
     for number, line in lines_of(options.file):

@@ -1,9 +1,9 @@
-"""Makes a network, the document that `canplan` reads, of a DBC file.
+"""Converts a DBC file to a network, the document that `canplan` reads.
 
     python3 -m riddlesage.dbc FILE --bitrate 500000 > network.toml
 
-The messages are those of `BO_`, their periods those of the attribute GenMsgCycleTime. What the file can't tell is asked
-for by options, and what is taken for it otherwise is told on standard error. Each line that can't be read is refused.
+The messages are those of `BO_`, their periods those of the attribute GenMsgCycleTime. Options give what the file cannot
+say; defaults that are used instead are reported on standard error. Each line that cannot be read is reported.
 """
 
 from __future__ import annotations
@@ -38,7 +38,7 @@ _DEFINITION = re.compile(rf"BA_DEF_\s+BO_\s+{_NAMED}\s+(\w+)\s*(.*);", re.DOTALL
 _DEFAULT = re.compile(rf"BA_DEF_DEF_\s+{_NAMED}\s+{_VALUE}\s*;")
 _ATTRIBUTE = re.compile(rf"BA_\s+{_NAMED}\s+BO_\s+(\d{{1,10}})\s+{_VALUE}\s*;")
 _SENDERS = re.compile(rf"BO_TX_BU_\s+(\d{{1,10}})\s*:?\s*({_WORD}(?:[\s,]+{_WORD})*)\s*;")
-# What begins so is to be one of these.
+# A statement that begins like the first pattern has to match the second.
 _READ = {
     "BO_": (re.compile("BO_"), _MESSAGE),
     "BA_DEF_": (re.compile(rf"BA_DEF_\s+BO_\s+{_NAMED}"), _DEFINITION),
@@ -47,25 +47,25 @@ _READ = {
     "BO_TX_BU_": (re.compile("BO_TX_BU_"), _SENDERS),
 }
 
-# It holds the signals that are in no message.
+# The message of the signals that are in no message.
 _NO_MESSAGE = "VECTOR__INDEPENDENT_SIG_MSG"
 _NO_SENDER = "Vector__XXX"
-# What canplan takes as a name.
+# The names that canplan accepts.
 _TOLD = re.compile(r"[ !#-\[\]-~]{1,64}")
-# An identifier with this bit is an extended one.
+# This bit marks an extended identifier.
 _EXTENDED = 1 << 31
 _MOST_CYCLE = 10**9
 
 
 class BadDatabase(RiddlesageError, ValueError):
-    """A text is no DBC file of classical CAN. `faults` has the number of each line that is wrong, and why."""
+    """The text is not a DBC file of classical CAN. `faults` has the number of each wrong line, and why it is wrong."""
 
     def __init__(self, faults: list[tuple[int, str]]) -> None:
         super().__init__("; ".join(f"line {line}: {why}" for line, why in faults))
         self.faults = faults
 
     def __reduce__(self) -> tuple[type[BadDatabase], tuple[list[tuple[int, str]]]]:
-        """How it is made again, where it is pickled or copied."""
+        """How it is rebuilt when it is unpickled or copied."""
         return type(self), (self.faults,)
 
 
@@ -78,10 +78,10 @@ class _Fault(ValueError):
 
 
 class Message(NamedTuple):
-    """A message: the line of its `BO_`, its name and sender, and what a frame of it is.
+    """A message: the line of its `BO_`, its name, its sender, and a frame of it.
 
-    `cycle` is its cycle time in microseconds, or 0 where it has none; `sending` its send type, or nothing; `senders`
-    how many there are.
+    `cycle` is its cycle time in microseconds, or 0 if it has none; `sending` its send type, or empty; `senders` the
+    number of its senders.
     """
 
     line: int
@@ -100,15 +100,15 @@ class _Statement(NamedTuple):
 
 
 def _keyword(line: str) -> str | None:
-    """The keyword with which a line begins a statement."""
+    """The keyword of the statement that a line begins, if it begins one."""
     found = _KEYWORD.match(line)
     return found[1] if found and (found[1] in _LINES or found[1] in _OTHERS) else None
 
 
 def _is_ended(keyword: str, lines: list[str]) -> bool:
-    """Whether a statement is whole. A keyword alone is one of the list of `NS_`.
+    """Whether a statement is complete. A keyword alone is one of the list of `NS_`.
 
-    A comment may have quotes and semicolons in it: it ends where a line ends with one of each.
+    A comment may contain quotes and semicolons: it ends with a line that ends with one of each.
     """
     last = lines[-1].strip()
     if keyword in _LINES or lines[0].strip() == keyword:
@@ -119,12 +119,12 @@ def _is_ended(keyword: str, lines: list[str]) -> bool:
 
 
 def _is_quoted(line: str) -> bool:
-    """Whether a line begins or ends quotes that hold a line end."""
+    """Whether a line opens or closes a string that contains a line end."""
     return (line.count('"') - line.count('\\"')) % 2 == 1
 
 
 def _is_doubtful(lines: list[str]) -> bool:
-    """Whether a statement has what may be another one in it, and quotes that do not tell it apart."""
+    """Whether a statement may contain another one, and its quotes do not decide it."""
     if not any(map(_keyword, lines[1:])):
         return False
     without = _STRING.sub('""', "\n".join(lines))
@@ -132,7 +132,7 @@ def _is_doubtful(lines: list[str]) -> bool:
 
 
 def _statements(text: str, faults: list[tuple[int, str]]) -> Iterator[_Statement]:
-    """The statements of a text. A line that belongs to none is a fault."""
+    """The statements of a text. A line outside all statements is a fault."""
     rest = text.replace("\r\n", "\n").replace("\r", "\n").split("\n")
     place = 0
     while place < len(rest):
@@ -141,7 +141,7 @@ def _statements(text: str, faults: list[tuple[int, str]]) -> Iterator[_Statement
         if keyword is None:
             line = lines[0].strip()
             if line and not _KEYWORD.fullmatch(line):
-                faults.append((begun, f"this is no statement of a DBC file: {line[:40]}"))
+                faults.append((begun, f"this is not a statement of a DBC file: {line[:40]}"))
             continue
         quoted = _is_quoted(lines[0])
         while not _is_ended(keyword, lines):
@@ -153,12 +153,12 @@ def _statements(text: str, faults: list[tuple[int, str]]) -> Iterator[_Statement
             place += 1
         else:
             if _is_doubtful(lines):
-                faults.append((begun, f"the quotes of this {keyword} do not tell where it ends"))
+                faults.append((begun, f"the quotes of this {keyword} leave open where it ends"))
             yield _Statement(begun, keyword, "\n".join(lines).strip())
 
 
 class _Reader:
-    """Takes statements, and makes the messages of them."""
+    """Collects statements, and makes messages from them."""
 
     def __init__(self, without: frozenset[str]) -> None:
         self.faults: list[tuple[int, str]] = []
@@ -170,14 +170,14 @@ class _Reader:
         self._senders: dict[int, int] = {}
 
     def take(self, statement: _Statement) -> None:
-        """Takes a statement, if it is one of those that are needed."""
+        """Adds a statement, if it is one of those that are needed."""
         line, keyword, text = statement
         begin, whole = _READ.get(keyword, (None, None))
         if begin is None or whole is None or text == keyword or not begin.match(text):
             return
         found = whole.fullmatch(text)
         if not found:
-            raise _Fault(line, f"this {keyword} can't be read: {text[:60]}")
+            raise _Fault(line, f"this {keyword} cannot be read: {text[:60]}")
         if keyword == "BO_":
             self._take_message(line, *found.groups(""))
         elif keyword == "BA_DEF_":
@@ -197,15 +197,15 @@ class _Reader:
         try:
             frame = Frame(place & ~_EXTENDED, b"", bool(place & _EXTENDED))
         except ValueError as refused:
-            raise _Fault(line, f"message {name} has no identifier: {place} ({refused})") from refused
+            raise _Fault(line, f"message {name} has no valid identifier: {place} ({refused})") from refused
         try:
             frame = Frame(frame.identifier, bytes(int(size)), frame.extended)
         except ValueError as refused:
-            why = "no classical frame has so many: CAN FD, or sent in parts"
+            why = "a classical frame has at most 8: it is of CAN FD, or sent in parts"
             raise _Fault(line, f"message {name} has {size} bytes; {why}") from refused
         if place in self._found:
             other_line, other = self._found[place][:2]
-            raise _Fault(line, f"message {name} has the identifier of {other}, line {other_line}")
+            raise _Fault(line, f"message {name} has the same identifier as {other}, line {other_line}")
         self._found[place] = (line, name, "" if sender == _NO_SENDER else sender, frame)
 
     def _value(self, name: str, place: int) -> tuple[int, str]:
@@ -214,22 +214,22 @@ class _Reader:
         words = self._enumerations.get(name)
         if words and re.fullmatch("[0-9]{1,9}", value):
             if int(value) >= len(words):
-                raise _Fault(line, f"{name} has no value {value}")
+                raise _Fault(line, f"{name} has no value number {value}")
             return line, words[int(value)]
         return line, value.strip('"')
 
     def _message(self, place: int) -> Message:
-        """The message of an identifier, as all statements tell it."""
+        """The message of an identifier, from all statements about it."""
         line, name, sender, frame = self._found[place]
         if self._value(_FORMAT, place)[1].endswith("_FD"):
-            raise _Fault(line, f"message {name} is of CAN FD, by {_FORMAT}")
+            raise _Fault(line, f"message {name} is of CAN FD, according to {_FORMAT}")
         given, cycle = self._value(_CYCLE, place)
         try:
             time = decimal.Decimal(cycle or "0")
             if not 0 <= time < _MOST_CYCLE:
                 raise ValueError
         except (ArithmeticError, ValueError) as wrong:
-            raise _Fault(given, f"{_CYCLE} of {name} is no number of milliseconds: {cycle}") from wrong
+            raise _Fault(given, f"{_CYCLE} of {name} is not a number of milliseconds: {cycle}") from wrong
         sending = self._value(_SENDING, place)[1]
         return Message(line, name, sender, frame, int(time * 1000), sending, self._senders.get(place, 1))
 
@@ -243,7 +243,7 @@ class _Reader:
 
 
 def text_of(document: bytes, encoding: str | None = None) -> str:
-    """The text of a file: in an encoding, or in UTF-8 where it is that, or else in Windows-1252."""
+    """Decodes a file: from `encoding`; without it from UTF-8, or if it is not UTF-8, from Windows-1252."""
     try:
         if encoding is None:
             try:
@@ -253,13 +253,13 @@ def text_of(document: bytes, encoding: str | None = None) -> str:
         return document.decode(encoding).lstrip("\ufeff")
     except UnicodeDecodeError as wrong:
         line = document.count(b"\n", 0, wrong.start) + 1
-        raise BadDatabase([(line, f"this is no text in {wrong.encoding}; --encoding names another")]) from wrong
+        raise BadDatabase([(line, f"this is not {wrong.encoding} text; --encoding names another encoding")]) from wrong
 
 
 def read(text: str, without: Iterable[str] = ()) -> list[Message]:
-    """The messages of a DBC file, without those of these names.
+    """The messages of a DBC file, except those named in `without`.
 
-    What can't be read is a BadDatabase, a ValueError; a name that is of no message a LookupError.
+    If something cannot be read, it raises BadDatabase, a ValueError; if a name is that of no message, LookupError.
     """
     reader = _Reader(frozenset(without))
     for statement in _statements(text, reader.faults):
@@ -276,10 +276,10 @@ def read(text: str, without: Iterable[str] = ()) -> list[Message]:
 
 
 class Asked(NamedTuple):
-    """What a DBC file doesn't tell. Times are microseconds, by the names of messages; those by `""` are for all others.
+    """What a DBC file does not say. Times are in microseconds, by message name; those of `""` are for all others.
 
-    A period by the name of a message goes before its cycle time, one for all others behind it. `errors` is how many
-    hits come at once, and after how long one more may come.
+    A period for a message's name replaces its cycle time; one for all others is for messages without a cycle time.
+    `errors` is the error model of canplan: burst and spacing.
     """
 
     bitrate: int
@@ -289,12 +289,12 @@ class Asked(NamedTuple):
     errors: tuple[int, int] | None = None
 
     def period(self, message: Message) -> int:
-        """The period of a message, or 0 where it has none."""
+        """The period of a message, or 0 if it has none."""
         return self.periods.get(message.name, message.cycle or self.periods.get("", 0))
 
 
 def network(messages: Iterable[Message], asked: Asked) -> str:
-    """The document of a network, in TOML, of those messages that have a period."""
+    """The document of a network, in TOML, with the messages that have a period."""
     lines = ["version = 1", f"rate = {asked.bitrate}"]
     if asked.errors is not None:
         lines += ["", "[errors]", f"burst = {asked.errors[0]}", f"spacing = {asked.errors[1]}"]
@@ -306,7 +306,7 @@ def network(messages: Iterable[Message], asked: Asked) -> str:
 
 
 def _unnamed(messages: Sequence[Message]) -> list[Message]:
-    """Those whose names canplan would refuse: by a character, by their length, or as that of a message before."""
+    """The messages whose names canplan would refuse: for a character, for their length, or as a repeated name."""
     earlier: set[str] = set()
     unnamed = []
     for message in messages:
@@ -317,7 +317,7 @@ def _unnamed(messages: Sequence[Message]) -> list[Message]:
 
 
 def _message_lines(message: Message, asked: Asked, is_named: bool) -> Iterator[str]:
-    """The lines of a message, its sender in a comment, and its name too where canplan would refuse it."""
+    """The lines of a message, with its sender in a comment, and its name too if canplan would refuse it."""
     comment = [message.name] * (not is_named) + [f"sent by {message.sender}"] * bool(message.sender)
     if comment:
         yield f"# {', '.join(comment)}"
@@ -334,7 +334,7 @@ def _message_lines(message: Message, asked: Asked, is_named: bool) -> Iterator[s
 
 
 def _notes(file: str, messages: Sequence[Message], asked: Asked) -> Iterator[str]:
-    """What is left out, what no bound takes in, and what is taken for what the file doesn't tell."""
+    """The notes on what is left out, what the bounds do not cover, and which defaults are used."""
     left_out = [message for message in messages if not asked.period(message)]
     for message in left_out:
         wish = f"--period {message.name}=MICROSECONDS"
@@ -342,24 +342,25 @@ def _notes(file: str, messages: Sequence[Message], asked: Asked) -> Iterator[str
     planned = [message for message in messages if asked.period(message)]
     for message in planned:
         if message.senders > 1:
-            yield f"{file}:{message.line}: {message.name} has {message.senders} senders; canplan's bounds are for one"
+            senders = f"{message.name} has {message.senders} senders"
+            yield f"{file}:{message.line}: {senders}; the bounds of canplan hold for one sender"
     for message in _unnamed(planned):
         yield f"{file}:{message.line}: canplan would refuse the name {message.name}; it is in a comment"
     by_cycle = [message for message in planned if message.name not in asked.periods and message.cycle]
     for sending in sorted({message.sending for message in by_cycle} - {""}):
         if sending.lower() != "cyclic":
             names = ", ".join(message.name for message in by_cycle if message.sending == sending)
-            yield f"{file}: taken to come no sooner than by the cycle time, though of send type {sending}: {names}"
+            yield f"{file}: assumed to be at least a cycle time apart, despite send type {sending}: {names}"
     taken = [] if asked.jitters else ["jitter 0"]
     taken += [] if asked.deadlines else ["the period as deadline"]
-    taken += [] if asked.errors else ["no hits"]
+    taken += [] if asked.errors else ["no bit errors"]
     told = f"{len(planned)} messages, {len(left_out)} left out"
-    yield f"{file}: {told}" + (f"; taken for what is not told: {', '.join(taken)}" if taken else "")
+    yield f"{file}: {told}" + (f"; assumed: {', '.join(taken)}" if taken else "")
 
 
 def _number(text: str) -> int:
     if not re.fullmatch("[0-9]{1,18}", text):
-        raise argparse.ArgumentTypeError(f"{text!r} is no whole number")
+        raise argparse.ArgumentTypeError(f"{text!r} is not a whole number")
     return int(text)
 
 
@@ -378,29 +379,29 @@ def _encoding(text: str) -> str:
 def _parser() -> argparse.ArgumentParser:
     parser = argparse.ArgumentParser(
         prog="python3 -m riddlesage.dbc",
-        description="Writes the network, a document for canplan, of a DBC file. Periods are those of GenMsgCycleTime; "
-        "a message without is left out, and named.",
-        epilog="Where a line can't be read, or holds what is no classical frame, it is told and nothing is written; "
-        "the status is 1 then.",
+        description="Converts a DBC file to a network, a document for canplan. Periods are those of GenMsgCycleTime; "
+        "a message without one is left out, and reported.",
+        epilog="A line that cannot be read, or has no classical frame, is reported; then nothing is written, and the "
+        "exit status is 1.",
     )
     add = parser.add_argument
     add("file", metavar="FILE", help="the DBC file, or - for standard input")
-    add("--bitrate", type=_number, required=True, metavar="N", help="bits a second")
+    add("--bitrate", type=_number, required=True, metavar="N", help="bit rate, in bits per second")
     for word, what in (
-        ("period", "in place of a message's cycle time; without a name, for all that have none"),
-        ("jitter", "how long behind its release a frame is offered at most; without a name, of all others"),
-        ("deadline", "how long behind its release it is to have ended; without a name, of all others"),
+        ("period", "the period of a message, in place of its cycle time; without NAME, of all that have none"),
+        ("jitter", "the longest time from release to queuing of a frame; without NAME, of all other messages"),
+        ("deadline", "the time from its release by which a frame is to have ended; without NAME, of all others"),
     ):
         add(f"--{word}", type=_timed, action="append", default=[], metavar="[NAME=]MICROSECONDS", help=what)
-    add("--burst", type=_number, metavar="N", help="how many hits come at once at most")
-    add("--spacing", type=_number, metavar="MICROSECONDS", help="after how long one more may come")
-    add("--without", action="append", default=[], metavar="NAME", help="a message that is to be left out")
-    add("--encoding", type=_encoding, metavar="NAME", help="of the file; UTF-8, or else Windows-1252")
+    add("--burst", type=_number, metavar="N", help="error model: the most bit errors at once")
+    add("--spacing", type=_number, metavar="MICROSECONDS", help="error model: one more bit error per this time")
+    add("--without", action="append", default=[], metavar="NAME", help="leaves this message out")
+    add("--encoding", type=_encoding, metavar="NAME", help="encoding of the file; default UTF-8, or Windows-1252")
     return parser
 
 
 def _asked(parser: argparse.ArgumentParser, options: argparse.Namespace, messages: Sequence[Message]) -> Asked:
-    """What is asked for, of messages that are there."""
+    """The options as Asked. A name that is of no message is an error."""
     periods, jitters, deadlines = (dict(given) for given in (options.period, options.jitter, options.deadline))
     for name in sorted({*periods, *jitters, *deadlines} - {message.name for message in messages} - {""}):
         parser.error(f"there is no message {name}")
@@ -409,11 +410,11 @@ def _asked(parser: argparse.ArgumentParser, options: argparse.Namespace, message
 
 
 def main(words: Sequence[str] | None = None) -> int:
-    """Writes the network of a DBC file, and tells what is left out and what was taken for what the file lacks."""
+    """Writes the network of a DBC file, and reports what is left out and which defaults are used."""
     parser = _parser()
     options = parser.parse_args(words)
     if not options.bitrate:
-        parser.error("a bit rate is above 0")
+        parser.error("the bit rate must be above 0")
     refusals = Refusals(options.file)
     with opened(options.file) as given:
         document = given.read()

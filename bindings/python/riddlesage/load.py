@@ -1,10 +1,10 @@
-r"""What the frames in a log took of a bus, by the bit.
+r"""Measures the bus load of the frames in a log, to the bit.
 
     python3 -m riddlesage.load LOG --bitrate 500000
 
-A log is candump's (`riddlesage.candump`), or a file of .asc or .blf, which python-can reads where it is installed. Each
-frame takes its wire, with the stuff bits that it really had, and the three bit times of intermission behind it. What
-error flags and broken attempts took is in no log, and is not counted.
+A log is one of candump (`riddlesage.candump`), or an .asc or .blf file, which python-can reads if it is installed. Each
+frame takes its encoded length, with the stuff bits that it really had, and three bit times of intermission. Error flags
+and destroyed transmission attempts are in no log, and are not counted.
 
     >>> from riddlesage import Frame
     >>> from riddlesage.load import Load
@@ -13,7 +13,7 @@ error flags and broken attempts took is in no log, and is not counted.
     ...     load.take(time, Frame(0x123))
     >>> print("\n".join(load.lines("can0")))
     bus can0 rate 500000 frames 3 bits 144 of 1048 load 0.137 errors 0 fd 0
-    gap 897 bits behind 0.000110
+    gap 897 bits after 0.000110
     burst 2 frames 96 bits from 0.000000
     S 123 D frames 3 bits 144 share 1.000 load 0.137
     second 0 frames 3 bits 144 of 1048 load 0.137
@@ -33,16 +33,16 @@ from riddlesage._commands import Refusals, end_with, lines_of
 from riddlesage._frames import Frame, encode, frame_in
 from riddlesage.candump import BadLine, Line, Other, is_empty, read_line
 
-# Recessive levels behind each frame, in which no other frame may start.
+# Recessive levels after each frame, in which no other frame may start.
 INTERMISSION = 3
-# Bit times between two frames that still are back to back, where nothing else is said.
+# The default: at most so many bit times between two frames that count as back to back.
 SLACK = 10
-# A moment is a time in nanoseconds times the bit rate, which is whole: so many of them are a bit time.
+# Moments are nanoseconds times the bit rate, so that they are integers: this many of them are a bit time.
 _BIT = 10**9
 
 
 class Stretch(NamedTuple):
-    """Bit times in a row, and frames in them; and the time, in nanoseconds, that the log has of a frame."""
+    """Consecutive bit times, the frames in them, and the time in the log of one frame, in nanoseconds."""
 
     bits: int
     frames: int
@@ -50,15 +50,16 @@ class Stretch(NamedTuple):
 
 
 class Load:
-    """What frames took of a bus: each its wire, and the intermission behind it.
+    """The load of a bus: each frame takes its encoded length and three bit times of intermission.
 
-    The time of a frame is that of the end of its wire, in nanoseconds. Two are back to back where the second begins no
-    more than `slack` bit times behind the intermission of the first, as no log's times are exact.
+    The time of a frame is that of the end of its end of frame, in nanoseconds. Two frames are back to back if the
+    second begins at most `slack` bit times after the intermission of the first, because the times of a log are not
+    exact.
     """
 
     def __init__(self, bitrate: int, slack: int = SLACK) -> None:
         if bitrate <= 0:
-            raise ValueError("a bit rate is above 0")
+            raise ValueError("a bit rate must be above 0")
         self.bitrate, self.slack = bitrate, slack
         self.frames = self.bits = self.errors = self.fd = self.early = 0
         self.gap = self.burst = Stretch(0, 0, 0)
@@ -69,21 +70,21 @@ class Load:
 
     @property
     def window(self) -> int:
-        """The bit times from the start of the first frame to the end of the intermission behind the last."""
+        """The bit times from the start of the first frame to the end of the intermission after the last."""
         return (self._free - self._begin) // _BIT
 
     @property
     def seconds(self) -> dict[int, tuple[int, int]]:
-        """How many frames ended in a second, and the bit times of frames in it, for each that has some of these.
+        """For each second that has bit times of frames: how many frames ended in it, and these bit times.
 
         Seconds count from the start of the first frame.
         """
         return {number: (frames, taken // _BIT) for number, (frames, taken) in sorted(self._seconds.items())}
 
     def take(self, time: int, what: Frame | Other) -> None:
-        """Takes a frame, or what else the log tells of. One before those that were taken is a ValueError."""
+        """Adds a frame, or what else the log reports. One that is earlier than the last raises ValueError."""
         if time < self._time and self.frames:
-            raise ValueError("its time is before that of a line above")
+            raise ValueError("its time is before that of an earlier line")
         if isinstance(what, Other):
             self.errors += what is Other.ERROR
             self.fd += what is Other.FD
@@ -98,7 +99,7 @@ class Load:
         self.frames, self.bits, self._free, self._time = self.frames + 1, self.bits + bits, end, time
 
     def _place(self, time: int, begin: int, bits: int) -> None:
-        """Takes the gap before a frame, and the frame into the burst that it continues or begins."""
+        """Adds the gap before a frame, and the frame to the burst that it continues or begins."""
         if not self.frames:
             self._begin = self._free = begin
         gap = (begin - self._free) // _BIT
@@ -112,7 +113,7 @@ class Load:
             self.burst = self._run
 
     def _spread(self, begin: int, length: int) -> None:
-        """Counts a frame in the seconds in which it lies."""
+        """Adds a frame to the seconds in which it lies."""
         second = self.bitrate * _BIT
         number, place = divmod(begin - self._begin, second)
         while length:
@@ -123,14 +124,14 @@ class Load:
             number += 1
 
     def lines(self, channel: str) -> Iterator[str]:
-        """The lines that tell it: the bus, the longest gap and burst, messages by share, and seconds."""
+        """The lines of the report: the bus, the longest gap and burst, messages by share, and seconds."""
         told = f"errors {self.errors} fd {self.fd}"
         of = f" of {self.window} load {_part(self.bits, self.window)}" if self.frames else ""
         yield f"bus {channel} rate {self.bitrate} frames {self.frames} bits {self.bits}{of} {told}"
         if not self.frames:
             return
         gap, burst = self.gap, self.burst
-        yield f"gap {gap.bits} bits" + (f" behind {_time_text(gap.time)}" if gap.bits else "")
+        yield f"gap {gap.bits} bits" + (f" after {_time_text(gap.time)}" if gap.bits else "")
         yield f"burst {burst.frames} frames {burst.bits} bits from {_time_text(burst.time)}"
         for message, (frames, bits) in sorted(self.messages.items(), key=lambda it: (-it[1][1], it[0])):
             share, load = _part(bits, self.bits), _part(bits, self.window)
@@ -142,23 +143,23 @@ class Load:
 
 @functools.lru_cache(maxsize=1 << 16)
 def _measured(frame: Frame) -> tuple[str, int]:
-    """The message of a frame, as `S 123 D`, and how many bit times it takes: the levels that it really has."""
+    """The message of a frame, such as `S 123 D`, and how many bit times it takes, intermission included."""
     return " ".join(frame.text.split(" ", 3)[:3]), len(encode(frame)) + INTERMISSION
 
 
 def _part(bits: int, of: int) -> str:
-    """A part in thousandths, rounded down."""
+    """A ratio in thousandths, rounded down."""
     thousandths = bits * 1000 // of
     return f"{thousandths // 1000}.{thousandths % 1000:03}"
 
 
 def _time_text(time: int) -> str:
-    """A time in seconds, as candump writes it."""
+    """A time in seconds, in candump's format."""
     return f"{time // 10**9}.{time % 10**9 // 1000:06}"
 
 
 def _candump_lines(file: str, refusals: Refusals) -> Iterator[tuple[int, Line]]:
-    """The lines of a log of candump. Those that can't be read are refused."""
+    """The lines of a log of candump. Those that cannot be read are refused."""
     for number, text in lines_of(file):
         if is_empty(text):
             continue
@@ -178,13 +179,13 @@ def _python_can_lines(file: str, refusals: Refusals) -> Iterator[tuple[int, Line
                 try:
                     what = _frame_of_message(message)
                 except ValueError as refused:
-                    refusals.add(number, f"this is no frame: {refused}")
+                    refusals.add(number, f"this is not a frame: {refused}")
                     continue
                 yield number, Line(round(message.timestamp * 10**6) * 1000, str(message.channel), what)
     except OSError:
         raise
-    except Exception as wrong:  # whatever its readers raise
-        refusals.add(number + 1, f"python-can can't read on: {wrong}")
+    except Exception as wrong:  # its readers may raise anything
+        refusals.add(number + 1, f"python-can cannot read on: {wrong}")
 
 
 class _Message(Protocol):
@@ -210,7 +211,7 @@ def _frame_of_message(message: _Message) -> Frame | Other:
 
 
 def measure(file: str, bitrate: int, slack: int, refusals: Refusals) -> dict[str, Load]:
-    """What the frames of a log took, by channel."""
+    """The load of each channel of a log."""
     read = _python_can_lines if file.lower().endswith((".asc", ".blf")) else _candump_lines
     loads: dict[str, Load] = collections.defaultdict(lambda: Load(bitrate, slack))
     for number, line in read(file, refusals):
@@ -227,45 +228,46 @@ def measure(file: str, bitrate: int, slack: int, refusals: Refusals) -> dict[str
 def _arguments(words: Sequence[str] | None) -> argparse.Namespace:
     parser = argparse.ArgumentParser(
         prog="python3 -m riddlesage.load",
-        description="Tells what the frames in a log took of each bus, by the bit: the wire of each with the stuff bits "
-        "that it had, and three bit times of intermission.",
-        epilog="Error frames and those of CAN FD are counted, and not measured. A line that can't be read is told on "
-        "standard error, and the status is 1 then.",
+        description="Reports the bus load of the frames in a log, to the bit: each frame with the stuff bits that it "
+        "had, and three bit times of intermission.",
+        epilog="Error frames and CAN FD frames are counted, but not measured. A line that cannot be read is reported "
+        "on standard error; then the exit status is 1.",
     )
-    parser.add_argument("log", metavar="LOG", help="of candump, or - for standard input; .asc and .blf take python-can")
-    parser.add_argument("--bitrate", type=_number, required=True, metavar="N", help="bits a second")
-    parser.add_argument("--channel", metavar="NAME", help="this one alone; all where it is left out")
-    slack = f"frames no more than so many bit times apart are back to back; {SLACK} where it is left out"
+    log = "a log of candump, or - for standard input; .asc and .blf need python-can"
+    parser.add_argument("log", metavar="LOG", help=log)
+    parser.add_argument("--bitrate", type=_number, required=True, metavar="N", help="bit rate, in bits per second")
+    parser.add_argument("--channel", metavar="NAME", help="only this channel; without it all")
+    slack = f"frames at most so many bit times apart count as back to back; default {SLACK}"
     parser.add_argument("--slack", type=_number, default=SLACK, metavar="BITS", help=slack)
     options = parser.parse_args(words)
     if not options.bitrate:
-        parser.error("a bit rate is above 0")
+        parser.error("the bit rate must be above 0")
     return options
 
 
 def _number(text: str) -> int:
     if not (text.isascii() and text.isdigit()):
-        raise argparse.ArgumentTypeError(f"{text!r} is no whole number")
+        raise argparse.ArgumentTypeError(f"{text!r} is not a whole number")
     return int(text)
 
 
 def main(words: Sequence[str] | None = None) -> int:
-    """Tells the load of each bus of a log."""
+    """Reports the load of each bus of a log."""
     options = _arguments(words)
     refusals = Refusals(options.log)
     try:
         loads = measure(options.log, options.bitrate, options.slack, refusals)
     except ModuleNotFoundError:
-        print(f"{options.log}: .asc and .blf take python-can, which is not there (python3-can)", file=sys.stderr)
+        print(f"{options.log}: .asc and .blf need python-can, which is missing (python3-can)", file=sys.stderr)
         return 2
     if not loads or options.channel not in (None, *loads):
-        print(f"{refusals.file}: it has nothing of {options.channel or 'any bus'}", file=sys.stderr)
+        print(f"{refusals.file}: it has no frames of {options.channel or 'any bus'}", file=sys.stderr)
         return refusals.end() or 1
     for channel, load in loads.items():
         if options.channel in (None, channel):
             print("\n".join(load.lines(channel)))
             if load.early:
-                faster = f"{load.early} frames come sooner behind others than {options.bitrate} bits a second allow"
+                faster = f"{load.early} frames follow others sooner than {options.bitrate} bits per second allow"
                 print(f"{refusals.file}: {channel}: {faster}", file=sys.stderr)
     return refusals.end()
 

@@ -1,15 +1,15 @@
-"""A plugin of pytest that plays the conformance kit to a device in Python: one test for each case.
+"""A pytest plugin that plays the conformance kit to a controller in Python: one test per case.
 
     def test_my_controller(can_case):
         can_case.hold_against(MyController(joining=can_case.joining))
 
-A test that asks for `can_case` is run with each case of the kit. A device has the calls of `riddlesage.Device`, and
-`hold(count)` where it makes overload frames of its own. What it tells by `sample` is compared where it tells anything,
-and so is how it ends where it has `state` and `counters`, as a Port has.
+A test with the fixture `can_case` is run with each case of the kit. The controller has the calls of
+`riddlesage.Device`, and `hold(count)` if it can send overload frames. Driven levels are compared; events too, if
+`sample` returns any in the case; the final state too, if the controller has `state` and `counters`, as a Port has.
 
-`--can-only WORD` plays the cases whose names begin so, and `--can-without forced,hold` skips those that need what a
-bench can't do. The kit is looked for at the environment variable RIDDLESAGE_KIT, then in this package, then where the
-repository has it. What the rules demand of each case stands in its transcripts, which are the proved reference's.
+`--can-only WORD` plays the cases whose names begin with WORD; `--can-without forced,hold` skips those that need what
+the test bench cannot do. The kit is searched for at the environment variable RIDDLESAGE_KIT; without that in this
+package, and in the repository. The expected transcripts are those of the proved reference.
 """
 
 from __future__ import annotations
@@ -45,7 +45,7 @@ _EVENTS = {
 _STATES = {State.ERROR_ACTIVE: "active", State.ERROR_PASSIVE: "passive", State.BUS_OFF: "off"}
 
 
-# The kit's package goes by this name, so that a project may have a `kit` of its own.
+# The kit's package has this name, so that a project may have a package `kit` of its own.
 _PACKAGE = "riddlesage_kit"
 
 
@@ -57,7 +57,7 @@ def _find_kit() -> pathlib.Path:
     found = (place / "kit" / "__init__.py" for place in places)
     kit = next((file for file in found if file.is_file()), None)
     if kit is None:
-        raise pytest.UsageError("the conformance kit is not found: RIDDLESAGE_KIT names its folder")
+        raise pytest.UsageError("the conformance kit is not found; RIDDLESAGE_KIT may name its folder")
     return kit
 
 
@@ -74,17 +74,17 @@ def _kit(module: str) -> Any:
 
 
 def _told_text(told: Told) -> str:
-    """The text of an event, as the kit has it."""
+    """The text of an event, in the words of the kit."""
     return _EVENTS[told.event] + (f" {told.frame.text}" if told.frame else "")
 
 
 class _Holding(Protocol):
     def hold(self, count: int, /) -> None:
-        """Asks for so many overload frames of its own, 0 to 2, in place of an earlier wish."""
+        """Requests 0 to 2 overload frames, in place of an earlier request."""
 
 
 class CanCase:
-    """A case of the kit, and what the rules demand in it."""
+    """A case of the kit, and its expected transcript."""
 
     def __init__(self, case: Case, expected: Transcript) -> None:
         self._case, self._expected = case, expected
@@ -96,16 +96,16 @@ class CanCase:
 
     @property
     def purpose(self) -> str:
-        """What is tested."""
+        """What the case tests."""
         return self._case.purpose
 
     @property
     def joining(self) -> bool:
-        """Whether the device begins by joining the bus; else it is idle."""
+        """Whether the controller begins with bus integration; otherwise it is idle."""
         return self._case.start == "joining"
 
     def hold_against(self, device: Device) -> None:
-        """Plays the case to a new device, and fails at the first bit time in which it does not as the rules demand."""
+        """Plays the case to a new controller. Fails with the first bit time in which it differs from the transcript."""
         comparing, reports = _kit("comparing"), _kit("reports")
         given = self._play(device)
         found = comparing.differences(given, self._expected)
@@ -117,7 +117,7 @@ class CanCase:
             pytest.fail("\n".join(lines), pytrace=False)
 
     def _play(self, device: Device) -> Transcript:
-        """What the device does in the case."""
+        """The transcript of the device in the case."""
         offers, holds = self._case.offers[::-1], self._case.holds[::-1]
         drove, events = "", []
         for time, tester in enumerate(_kit("playing").seen_levels(self._case)):
@@ -126,7 +126,7 @@ class CanCase:
             while holds and holds[-1][0] == time:
                 cast(_Holding, device).hold(holds.pop()[1])
             driven = device.drive()
-            # with `f` it sees a recessive level whatever it drives
+            # with `f` it samples a recessive level, whatever it drives
             event = device.sample(1 if tester == "f" else driven & int(tester))
             drove += str(int(driven))
             if event is not None:
@@ -143,14 +143,14 @@ class CanCase:
 def pytest_addoption(parser: pytest.Parser) -> None:
     """The options of the plugin."""
     group = parser.getgroup("riddlesage")
-    group.addoption("--can-only", action="append", metavar="WORD", help="cases whose names begin so")
+    group.addoption("--can-only", action="append", metavar="WORD", help="only cases whose names begin so")
     group.addoption(
-        "--can-without", default="", metavar="NEEDS", help="what the bench can't do: forced,hold,queue,recovery"
+        "--can-without", default="", metavar="NEEDS", help="what the test bench cannot do: forced,hold,queue,recovery"
     )
 
 
 def pytest_generate_tests(metafunc: pytest.Metafunc) -> None:
-    """Runs a test that asks for `can_case` with each case."""
+    """Runs a test with the fixture `can_case` once per case."""
     if "can_case" not in metafunc.fixturenames:
         return
     library = _kit("library")
@@ -160,7 +160,7 @@ def pytest_generate_tests(metafunc: pytest.Metafunc) -> None:
     chosen = []
     for case in cases:
         missing = sorted(lacks.intersection(case.needs))
-        marks = [pytest.mark.skip(reason=f"the bench has no {' and no '.join(missing)}")] if missing else []
+        marks = [pytest.mark.skip(reason=f"the test bench has no {' and no '.join(missing)}")] if missing else []
         if case.name.startswith(only):
             chosen.append(pytest.param(CanCase(case, expected[case.name]), id=case.name, marks=marks))
     metafunc.parametrize("can_case", chosen)

@@ -1,4 +1,4 @@
-"""The lines of candump: each form of them, what is refused, and the command both ways."""
+"""The lines of candump: each format, what is refused, and the command in both directions."""
 
 from __future__ import annotations
 
@@ -13,14 +13,14 @@ from riddlesage.candump import BadLine, Other, main, read_line, text_of
 
 
 def some_frame(chance: random.Random, most: int = 15) -> Frame:
-    """Some frame, of a DLC up to this."""
+    """A random frame with a DLC of at most this."""
     extended, remote, dlc = chance.random() < 0.5, chance.random() < 0.2, chance.randrange(most + 1)
     data = b"" if remote else bytes(chance.choice((0, 255, chance.randrange(256))) for _ in range(min(dlc, 8)))
     return Frame(chance.randrange(1 << (29 if extended else 11)), data, extended, remote, dlc)
 
 
 def test_both_ways() -> None:
-    """A frame is that of its line."""
+    """The line of a frame is read as this frame."""
     chance = random.Random(1)
     for _ in range(2000):
         frame = some_frame(chance)
@@ -55,7 +55,7 @@ def test_both_ways() -> None:
     ],
 )
 def test_forms(line: str, text: str) -> None:
-    """The log's lines and those of the screen."""
+    """Lines of logs and of the screen."""
     what = read_line(line).what
     assert isinstance(what, Frame) and what.text == text
 
@@ -72,7 +72,7 @@ def test_forms(line: str, text: str) -> None:
     ],
 )
 def test_others(line: str, what: Other) -> None:
-    """Error frames, and those of CAN FD."""
+    """Error frames and CAN FD frames."""
     assert read_line(line).what is what
 
 
@@ -107,7 +107,7 @@ def test_others(line: str, what: Other) -> None:
     ],
 )
 def test_refused(line: str) -> None:
-    """What is none."""
+    """Lines that are not candump's."""
     with pytest.raises(BadLine):
         read_line(line)
 
@@ -125,7 +125,7 @@ def test_refused(line: str) -> None:
     ],
 )
 def test_times(line: str, time: int | None) -> None:
-    """Times are told in nanoseconds."""
+    """Times are in nanoseconds."""
     assert read_line(line).time == time
 
 
@@ -152,7 +152,7 @@ def test_channels() -> None:
 
 
 def test_command(tmp_path: pathlib.Path, capsys: pytest.CaptureFixture[str]) -> None:
-    """Lines become texts and texts lines, and those that can't are told."""
+    """Lines become texts and texts lines, and those that cannot are reported."""
     log = tmp_path / "a.log"
     log.write_bytes(b"(1.5) can0 123#AB01\r\n\n123#R4\n  can0  20000080   [0]   ERRORFRAME\n\twords\n1\xff\n00000001#")
     assert main(["texts", str(log)]) == 1
@@ -160,7 +160,7 @@ def test_command(tmp_path: pathlib.Path, capsys: pytest.CaptureFixture[str]) -> 
     assert told.out == "S 123 D 2 ab01\nS 123 R 4\nE 00000001 D 0\n"
     assert told.err.splitlines() == [
         f"{log}:4: an error frame has no frame text",
-        f"{log}:6: this is no line of candump",
+        f"{log}:6: this is not a line of candump",
     ]
     texts = tmp_path / "a.txt"
     texts.write_text("S 123 D 2 ab01\nS 123 R 4\nS 800 D 0\nE 00000001 D 9 0011223344556677\n", "ascii")
@@ -171,7 +171,7 @@ def test_command(tmp_path: pathlib.Path, capsys: pytest.CaptureFixture[str]) -> 
 
 
 def test_standard_input(monkeypatch: pytest.MonkeyPatch, capsys: pytest.CaptureFixture[str]) -> None:
-    """Standard input is read where no file is named."""
+    """Standard input is read if no file is named."""
     monkeypatch.setattr(sys, "stdin", io.TextIOWrapper(io.BytesIO(b"123#\n?\n")))
     assert main(["texts"]) == 1
     assert capsys.readouterr() == ("S 123 D 0\n", "standard input:2: this is no line of candump\n")

@@ -1,4 +1,4 @@
-"""The network of a DBC file: what is read, left out and refused, and that canplan takes what is made of it."""
+"""The network of a DBC file: what is read, left out and refused, and that canplan accepts the document."""
 
 from __future__ import annotations
 
@@ -17,6 +17,7 @@ EXAMPLES = pathlib.Path(__file__).resolve().parent.parent / "examples"
 BOILER = EXAMPLES / "boiler.dbc"
 WORDS = ["--bitrate", "125000", "--period", "BoilerFault=100000", "--jitter", "1000", "--jitter", "PanelWish=5000"]
 CANPLAN = os.environ.get("CANPLAN", "")
+IDENTIFIER = "bad identifier: 0 to 0x7ff, or to 0x1fffffff if it is extended"
 
 
 def tables(text: str, asked: Asked) -> list[dict[str, Any]]:
@@ -38,13 +39,13 @@ def messages_of(text: str) -> list[tuple[str, str, int]]:
 
 
 def test_example(capsys: pytest.CaptureFixture[str]) -> None:
-    """The example makes its stored network, and says what isn't told."""
+    """The example gives its stored network, and reports the defaults."""
     assert main([str(BOILER), *WORDS]) == 0
     told = capsys.readouterr()
     assert told.out == (EXAMPLES / "boiler.toml").read_text("ascii")
     assert told.err.splitlines() == [
-        f"{BOILER}: taken to come no sooner than by the cycle time, though of send type cyclicIfActive: PanelWish",
-        f"{BOILER}: 5 messages, 0 left out; taken for what is not told: the period as deadline, no hits",
+        f"{BOILER}: assumed to be at least a cycle time apart, despite send type cyclicIfActive: PanelWish",
+        f"{BOILER}: 5 messages, 0 left out; assumed: the period as deadline, no bit errors",
     ]
 
 
@@ -55,7 +56,7 @@ def test_left_out(capsys: pytest.CaptureFixture[str]) -> None:
     assert "BoilerFault" not in told.out and len(tomllib.loads(told.out)["message"]) == 4
     left_out = "BoilerFault has no cycle time, and is left out; --period BoilerFault=MICROSECONDS gives it a period"
     assert f"{BOILER}:55: {left_out}" in told.err.splitlines()
-    assert "4 messages, 1 left out; taken for what is not told: jitter 0, the period as deadline, no hits" in told.err
+    assert "4 messages, 1 left out; assumed: jitter 0, the period as deadline, no bit errors" in told.err
 
 
 @pytest.mark.skipif(not CANPLAN, reason="CANPLAN does not name the program")
@@ -82,13 +83,13 @@ def test_encodings(encoding: str, end: str) -> None:
 
 @pytest.mark.parametrize("encoding", ["gbk", "shift_jis", "utf-16", "utf-16-le"])
 def test_other_encodings(encoding: str) -> None:
-    """Others are named. A byte of a letter may be that of a backslash there."""
+    """Others are given by name. In them a byte of a letter may be that of a backslash."""
     text = BOILER.read_text("utf-8").replace("°C", "温度表")
     assert read(text_of(text.encode(encoding), encoding)) == read(text)
 
 
 def test_no_encoding() -> None:
-    """A byte that is none of UTF-8 and none of Windows-1252 is refused by its line."""
+    """A byte that is invalid in UTF-8 and in Windows-1252 is reported with its line."""
     with pytest.raises(BadDatabase) as refused:
         text_of(b'VERSION ""\n\nCM_ "\x81";\n')
     assert [line for line, _ in refused.value.faults] == [3]
@@ -127,7 +128,7 @@ def test_no_encoding() -> None:
     ],
 )
 def test_statements(comment: str) -> None:
-    """What tools write besides is passed over, and what stands behind it is read."""
+    """Other statements of tools are skipped, and what follows them is read."""
     text = f'BU_: A B\n{comment}\nBO_ 100 Name: 8 A\n{comment}\nBA_ "GenMsgCycleTime" BO_ 100 20;\n{comment}'
     assert messages_of(text) == [("Name", "S 064 D 8", 20000)]
 
@@ -165,76 +166,76 @@ def test_messages(line: str, frame: str) -> None:
     ],
 )
 def test_cycle_times(attributes: str, cycle: int) -> None:
-    """Milliseconds of the message, or else the default; a part of a microsecond is dropped."""
+    """Milliseconds of the message, or otherwise the default; fractions of a microsecond are dropped."""
     assert [it.cycle for it in read(f"BO_ 100 Name: 8 A\n{attributes}")] == [cycle]
 
 
 @pytest.mark.parametrize(
     ("text", "line", "why"),
     [
-        ("<?xml version='1.0'?>", 1, "this is no statement of a DBC file: <?xml version='1.0'?>"),
-        ("BO 100 Name: 8 A", 1, "this is no statement of a DBC file: BO 100 Name: 8 A"),
-        ('VERSION ""\n\nBO_ 100 Name 8 A', 3, "this BO_ can't be read: BO_ 100 Name 8 A"),
-        ("BO_ 0x64 Name: 8 A", 1, "this BO_ can't be read: BO_ 0x64 Name: 8 A"),
-        ("BO_ -1 Name: 8 A", 1, "this BO_ can't be read: BO_ -1 Name: 8 A"),
-        ("BO_ 2048 Name: 8 A", 1, "message Name has no identifier: 2048 (bad identifier)"),
-        ("BO_ 2684354560 Name: 8 A", 1, "message Name has no identifier: 2684354560 (bad identifier)"),
-        ("BO_ 1 A: 8 A\nBO_ 1 B: 8 A", 2, "message B has the identifier of A, line 1"),
+        ("<?xml version='1.0'?>", 1, "this is not a statement of a DBC file: <?xml version='1.0'?>"),
+        ("BO 100 Name: 8 A", 1, "this is not a statement of a DBC file: BO 100 Name: 8 A"),
+        ('VERSION ""\n\nBO_ 100 Name 8 A', 3, "this BO_ cannot be read: BO_ 100 Name 8 A"),
+        ("BO_ 0x64 Name: 8 A", 1, "this BO_ cannot be read: BO_ 0x64 Name: 8 A"),
+        ("BO_ -1 Name: 8 A", 1, "this BO_ cannot be read: BO_ -1 Name: 8 A"),
+        ("BO_ 2048 Name: 8 A", 1, f"message Name has no valid identifier: 2048 ({IDENTIFIER})"),
+        ("BO_ 2684354560 Name: 8 A", 1, f"message Name has no valid identifier: 2684354560 ({IDENTIFIER})"),
+        ("BO_ 1 A: 8 A\nBO_ 1 B: 8 A", 2, "message B has the same identifier as A, line 1"),
         ('BO_ 1 A: 8 A\nCM_ "one', 2, "this CM_ does not end"),
         ('CM_ "one"\nBO_ 1 A: 8 A', 1, "this CM_ does not end"),
         ('BO_ 1 A: 8 A\nVAL_ 1 S 0 "a"\nBA_ "GenMsgCycleTime" BO_ 1 20;', 2, "this VAL_ does not end"),
-        ('BA_ "GenMsgCycleTime" SG_ 1 S 20;', 1, """this BA_ can't be read: BA_ "GenMsgCycleTime" SG_ 1 S 20;"""),
-        ('BA_ "GenMsgCycleTime" BO_ 1;', 1, """this BA_ can't be read: BA_ "GenMsgCycleTime" BO_ 1;"""),
-        ('BA_DEF_DEF_ "GenMsgCycleTime";', 1, """this BA_DEF_DEF_ can't be read: BA_DEF_DEF_ "GenMsgCycleTime";"""),
+        ('BA_ "GenMsgCycleTime" SG_ 1 S 20;', 1, """this BA_ cannot be read: BA_ "GenMsgCycleTime" SG_ 1 S 20;"""),
+        ('BA_ "GenMsgCycleTime" BO_ 1;', 1, """this BA_ cannot be read: BA_ "GenMsgCycleTime" BO_ 1;"""),
+        ('BA_DEF_DEF_ "GenMsgCycleTime";', 1, """this BA_DEF_DEF_ cannot be read: BA_DEF_DEF_ "GenMsgCycleTime";"""),
         (
             'CM_ "one;\nBA_ "GenMsgCycleTime" BO_ 1 20;\nCM_ "two";',
             1,
-            "the quotes of this CM_ do not tell where it ends",
+            "the quotes of this CM_ leave open where it ends",
         ),
-        ("BO_TX_BU_ Name : A;", 1, "this BO_TX_BU_ can't be read: BO_TX_BU_ Name : A;"),
+        ("BO_TX_BU_ Name : A;", 1, "this BO_TX_BU_ cannot be read: BO_TX_BU_ Name : A;"),
     ],
 )
 def test_refused(text: str, line: int, why: str) -> None:
-    """What can't be read is refused by its line."""
+    """What cannot be read is reported with its line."""
     assert faults(text) == [(line, why)]
 
 
 @pytest.mark.parametrize("time", ["-1", "x", "nan", "inf", "1e99999", "1000000000", '"fast"', "1,5"])
 def test_no_time(time: str) -> None:
-    """A cycle time that is none is refused by the line that gives it, and so is a default."""
-    why = f"GenMsgCycleTime of Name is no number of milliseconds: {time}".replace('"', "")
+    """An invalid cycle time is reported with the line that gives it, and so is a default."""
+    why = f"GenMsgCycleTime of Name is not a number of milliseconds: {time}".replace('"', "")
     assert faults(f'BO_ 1 Name: 8 A\n\nBA_ "GenMsgCycleTime" BO_ 1 {time};') == [(3, why)]
     assert faults(f'BA_DEF_DEF_ "GenMsgCycleTime" {time};\nBO_ 1 Name: 8 A') == [(1, why)]
 
 
 @pytest.mark.parametrize("size", [9, 12, 64, 1785, 9999])
 def test_more_bytes(size: int) -> None:
-    """A message of CAN FD, or one that is sent in parts, is refused, or left out where that is asked for."""
+    """A message of CAN FD, or one that is sent in parts, is refused, or left out on request."""
     text = f"BO_ 1 Short: 8 A\nBO_ 2 Long: {size} A\nBO_ 3 Longer: {size} A"
-    why = "bytes; no classical frame has so many: CAN FD, or sent in parts"
+    why = "bytes; a classical frame has at most 8: it is of CAN FD, or sent in parts"
     assert faults(text) == [(2, f"message Long has {size} {why}"), (3, f"message Longer has {size} {why}")]
     assert [it.name for it in read(text, ["Long", "Longer"])] == ["Short"]
 
 
 def test_can_fd() -> None:
-    """A message of CAN FD is refused also where it has no more bytes than another."""
+    """A message of CAN FD is refused also if it has at most eight bytes."""
     text = (
         "BO_ 1 Classical: 8 A\nBO_ 2 Flexible: 8 A\n"
         'BA_DEF_ BO_ "VFrameFormat" ENUM "StandardCAN","ExtendedCAN","StandardCAN_FD","ExtendedCAN_FD";\n'
         'BA_DEF_DEF_ "VFrameFormat" "StandardCAN";\nBA_ "VFrameFormat" BO_ 2 2;\n'
     )
-    assert faults(text) == [(2, "message Flexible is of CAN FD, by VFrameFormat")]
-    assert faults(text + 'BA_ "VFrameFormat" BO_ 1 4;')[-1] == (6, "VFrameFormat has no value 4")
+    assert faults(text) == [(2, "message Flexible is of CAN FD, according to VFrameFormat")]
+    assert faults(text + 'BA_ "VFrameFormat" BO_ 1 4;')[-1] == (6, "VFrameFormat has no value number 4")
 
 
 def test_no_message() -> None:
-    """A name that is of no message is told."""
+    """A name that is of no message is reported."""
     with pytest.raises(LookupError, match="there is no message Other"):
         read("BO_ 1 Name: 8 A", ["Other"])
 
 
 def test_asked() -> None:
-    """What is asked for: by name, and for all others."""
+    """Options by name, and for all others."""
     text = 'BO_ 1 A: 1 N\nBO_ 2 B: 2 N\nBO_ 3 C: 3 N\nBA_ "GenMsgCycleTime" BO_ 1 10;\nBA_ "GenMsgCycleTime" BO_ 2 20;'
     asked = Asked(500000, {"A": 7000, "": 100}, {"": 5, "B": 0}, {"C": 9})
     assert tables(text, asked) == [
@@ -248,7 +249,7 @@ def test_asked() -> None:
 
 
 def test_names() -> None:
-    """A name that canplan would refuse stands in a comment: by a character, by its length, or a second time."""
+    """A name that canplan would refuse is in a comment: for a character, for its length, or as a repeated one."""
     names = ["a.b", 'a"b', "a\\b", "é", 64 * "x", 65 * "x", "a.b"]
     text = "\n".join(f"BO_ {place} {name}: 0 N" for place, name in enumerate(names))
     document = network(read(text), Asked(500000, {"": 100}))
@@ -263,16 +264,16 @@ def test_names() -> None:
     [
         ("BO_ 1 Name: 8 A", [], 1, "no message has a period"),
         ("", [], 1, "no message has a period"),
-        ("BO_ 1 Name: 12 A\nBO_ 2 Other", [], 1, ":2: this BO_ can't be read: BO_ 2 Other"),
+        ("BO_ 1 Name: 12 A\nBO_ 2 Other", [], 1, ":2: this BO_ cannot be read: BO_ 2 Other"),
         ("?\n" * 50, [], 1, ": and 30 more lines"),
-        ("BO_ 1 Name: 8 A\nBO_TX_BU_ 1 : A,B,A;", ["--period", "9"], 0, ":1: Name has 2 senders; canplan's bounds are"),
+        ("BO_ 1 Name: 8 A\nBO_TX_BU_ 1 : A,B,A;", ["--period", "9"], 0, ":1: Name has 2 senders; the bounds of"),
         ('BO_ 1 A"B: 8 A', ["--period", "9"], 0, ':1: canplan would refuse the name A"B'),
     ],
 )
 def test_told(
     text: str, words: list[str], status: int, told: str, tmp_path: pathlib.Path, capsys: pytest.CaptureFixture[str]
 ) -> None:
-    """What the command says, and its status."""
+    """What the command reports, and its exit status."""
     file = tmp_path / "a.dbc"
     file.write_text(text, "ascii")
     assert main([str(file), "--bitrate", "500000", *words]) == status
@@ -301,7 +302,7 @@ def test_wrong_use(words: list[str]) -> None:
 
 
 def some_text(chance: random.Random) -> tuple[str, list[Message]]:
-    """A DBC file as some tool writes it, and its messages."""
+    """A random DBC file in the style of a tool, and its messages."""
     names = {f"M{chance.randrange(10**6)}": chance.random() < 0.5 for _ in range(chance.randrange(1, 12))}
     head, tail = ['VERSION ""', "", "NS_ :", "\tCM_", "\tBA_", "", "BS_:", "", "BU_: A B"], []
     messages: list[Message] = []
@@ -325,7 +326,7 @@ def some_text(chance: random.Random) -> tuple[str, list[Message]]:
 
 
 def test_random() -> None:
-    """Random files have just their messages; with bytes that are wrong they are read or refused, and nothing else."""
+    """Random files have exactly their messages; with wrong bytes they are read or refused, and nothing else."""
     chance = random.Random(1)
     for _ in range(200):
         text, messages = some_text(chance)

@@ -1,4 +1,4 @@
-"""The plugin: the library as a device passes every case of the kit; with BROKEN set, one that acknowledges nothing."""
+"""The plugin: the library passes every case of the kit; with BROKEN set, a controller that drives nothing is tested."""
 
 from __future__ import annotations
 
@@ -9,14 +9,14 @@ from riddlesage.pytest_plugin import CanCase
 
 
 class Silent(Port):
-    """A port that acknowledges nothing, as it drives nothing."""
+    """A port that drives nothing, and so acknowledges nothing."""
 
     def drive(self) -> int:
-        """Recessive, whatever is due."""
+        """Always recessive."""
         return RECESSIVE
 
 
 def test_a_port(can_case: CanCase) -> None:
-    """One test a case."""
+    """One test per case."""
     kind = Silent if os.environ.get("BROKEN") else Port
     can_case.hold_against(kind(4096, 0, joining=can_case.joining))

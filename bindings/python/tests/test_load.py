@@ -1,4 +1,4 @@
-"""What frames took of a bus: held against the levels of buses of ports, and what is told of logs of each kind."""
+"""The load of a bus: compared with the levels of simulated buses, and the reports on logs of each kind."""
 
 from __future__ import annotations
 
@@ -21,19 +21,19 @@ BEGUN = 1436509052
 
 
 def line_of(told: Happened, bitrate: int) -> str:
-    """The line of candump of a frame that a bus had: its time is the end of the bit time in which it was sent."""
+    """The line of candump for a frame on a bus: its time is the end of the bit time that reports it as sent."""
     assert told.frame is not None
     microseconds = (told.time + 1) * 10**6 // bitrate
     return f"({BEGUN + microseconds // 10**6}.{microseconds % 10**6:06}) can0 {text_of(told.frame)}"
 
 
 def sent_by(bus: Bus, bits: int) -> list[Happened]:
-    """The frames that were sent in so many bit times."""
+    """The frames that were sent in these bit times."""
     return [told for told in bus.run(bits) if told.event is Event.SENT]
 
 
 def boiler_bus() -> Bus:
-    """The network of examples/boiler.dbc, all of whose messages are released at once, but for that of the fault."""
+    """The network of examples/boiler.dbc. All messages except that of the fault are released at once."""
     bus = Bus(Port(), Port(), Port())
     for number in range(3):
         bus.offer(0, Frame(0x100, bytes([number % 2, 0x84, 0x03, 0])), 2500 * number)
@@ -60,7 +60,7 @@ def test_readme() -> None:
 
 
 def some_bus(chance: random.Random, bits: int) -> Bus:
-    """Four ports with frames of all kinds, at some times many, and wires that are hit now and then."""
+    """Four ports with frames of all kinds, at random times."""
     bus = Bus(*(Port(64) for _ in range(4)))
     for place in range(4):
         for _ in range(bits // 1000):
@@ -96,7 +96,7 @@ def test_levels(seed: int) -> None:
 
 
 def test_intermission() -> None:
-    """A port has its next frame on the wire as soon as one is counted as past."""
+    """A port starts its next frame as soon as the previous one is counted as over."""
     bus, load = Bus(Port(), Port()), Load(1000000, slack=0)
     for _ in range(3):
         bus.offer(0, Frame(0x123))
@@ -122,10 +122,10 @@ def test_seconds() -> None:
 
 
 def test_calls() -> None:
-    """What a call refuses."""
+    """Arguments that calls refuse."""
     load = Load(500000)
     load.take(5, Frame(0))
-    with pytest.raises(ValueError, match="before that of a line above"):
+    with pytest.raises(ValueError, match="before that of an earlier line"):
         load.take(4, Frame(0))
     with pytest.raises(TypeError):
         load.take(6, "S 000 D 0")  # type: ignore[arg-type]
@@ -136,20 +136,20 @@ def test_calls() -> None:
 
 
 def test_texts() -> None:
-    """The examples in the modules' texts do what they say."""
+    """The examples in the modules' docstrings give the results shown."""
     for module in (riddlesage.load, riddlesage.candump):
         failed, tried = doctest.testmod(module)
         assert (failed, tried > 0) == (0, True)
 
 
 def told_of(lines: Iterable[str], tmp_path: pathlib.Path, *words: str) -> int:
-    """The status of the command for these lines."""
+    """The exit status of the command for these lines."""
     (tmp_path / "a.log").write_text("\n".join(lines), "ascii")
     return main([str(tmp_path / "a.log"), "--bitrate", "500000", *words])
 
 
 def test_lines(tmp_path: pathlib.Path, capsys: pytest.CaptureFixture[str]) -> None:
-    """Errors and CAN FD are counted; a line that can't be read is told, and the others are measured."""
+    """Errors and CAN FD are counted; a line that cannot be read is reported, and the others are measured."""
     lines = [
         "(1.000000) can0 123#",
         "(1.000050) can0 20000080#0000000000000000",
@@ -171,10 +171,10 @@ def test_lines(tmp_path: pathlib.Path, capsys: pytest.CaptureFixture[str]) -> No
     assert "bus can1 rate 500000 frames 0 bits 0 errors 1 fd 0" in told.out.splitlines()
     assert told.err.splitlines() == [
         f"{tmp_path}/a.log:5: it has no time: candump writes one with -l, -L or -t a",
-        f"{tmp_path}/a.log:7: its time is before that of a line above",
-        f"{tmp_path}/a.log:8: this is no line of candump",
+        f"{tmp_path}/a.log:7: its time is before that of an earlier line",
+        f"{tmp_path}/a.log:8: this is not a line of candump",
         f"{tmp_path}/a.log:10: it has no time: candump writes one with -l, -L or -t a",
-        f"{tmp_path}/a.log: can0: 1 frames come sooner behind others than 500000 bits a second allow",
+        f"{tmp_path}/a.log: can0: 1 frames follow others sooner than 500000 bits per second allow",
     ]
 
 
@@ -199,7 +199,7 @@ def test_wrong_use(words: list[str]) -> None:
 
 @pytest.mark.parametrize("end", [".asc", ".blf", ".ASC"])
 def test_python_can(end: str, tmp_path: pathlib.Path, capsys: pytest.CaptureFixture[str]) -> None:
-    """What python-can reads is measured as candump's lines are."""
+    """The logs that python-can reads are measured like candump's."""
     can = pytest.importorskip("can")
     log, chance, time = tmp_path / f"a{end}", random.Random(1), 0
     lines = []
@@ -222,28 +222,28 @@ def test_python_can(end: str, tmp_path: pathlib.Path, capsys: pytest.CaptureFixt
     assert told_of(lines, tmp_path) == 0
     wanted = capsys.readouterr().out.splitlines()
     assert given[0].split(" ")[2:] == wanted[0].split(" ")[2:]
-    assert [line.split(" from ")[0].split(" behind ")[0] for line in given[1:]] == [
-        line.split(" from ")[0].split(" behind ")[0] for line in wanted[1:]
+    assert [line.split(" from ")[0].split(" after ")[0] for line in given[1:]] == [
+        line.split(" from ")[0].split(" after ")[0] for line in wanted[1:]
     ]
 
 
 def test_without_python_can(
     tmp_path: pathlib.Path, monkeypatch: pytest.MonkeyPatch, capsys: pytest.CaptureFixture[str]
 ) -> None:
-    """Where it is not there, its files are refused."""
+    """Without python-can its files are refused."""
     monkeypatch.setitem(sys.modules, "can", None)  # type: ignore[misc]
     assert main([str(tmp_path / "a.blf"), "--bitrate", "500000"]) == 2
-    assert capsys.readouterr().err.endswith("a.blf: .asc and .blf take python-can, which is not there (python3-can)\n")
+    assert capsys.readouterr().err.endswith("a.blf: .asc and .blf need python-can, which is missing (python3-can)\n")
 
 
 @pytest.mark.parametrize("content", [b"", b"words", bytes(100)])
 @pytest.mark.parametrize("end", [".asc", ".blf", ".log"])
 def test_no_log(end: str, content: bytes, tmp_path: pathlib.Path, capsys: pytest.CaptureFixture[str]) -> None:
-    """A file that is none is refused, whatever python-can makes of it."""
+    """A file that is not a log is refused, whatever python-can reads in it."""
     if end != ".log":
         pytest.importorskip("can")
     log = tmp_path / f"a{end}"
     log.write_bytes(content)
     assert main([str(log), "--bitrate", "500000"]) == 1
     told = capsys.readouterr()
-    assert (told.out, told.err.splitlines()[-1]) == ("", f"{log}: it has nothing of any bus")
+    assert (told.out, told.err.splitlines()[-1]) == ("", f"{log}: it has no frames of any bus")

@@ -1,9 +1,9 @@
-//! What the page shows: a port is offered a frame, and another one receives it.
+//! The example of bindings/rust/README.md: one port sends a frame and another receives it, then a bus with one call.
 
 use riddlesage::{play, Event, Frame, Hit, Offer, Port, Refused};
 
 fn main() -> Result<(), Refused> {
-    let mut sender = Port::idle(16, 64)?; // 16 frames may wait, the log has 64 entries
+    let mut sender = Port::idle(16, 64)?; // capacity: 16 queued frames, 64 log entries
     let mut receiver = Port::idle(16, 64)?;
     sender.offer(&Frame::standard(0x123, &[0xaa, 0x55])?)?;
     for _ in 0..80 {
@@ -16,8 +16,8 @@ fn main() -> Result<(), Refused> {
 
     let mut ports = [sender, receiver];
     let offer = Offer { time: 5, port: 1, frame: Frame::standard(0x124, &[])? };
-    let hit = Hit::In { attempt: 0, offset: 16 }; // 16 bit times behind the start of attempt 0
-    let played = play(&mut ports, 200, &[offer], &[hit])?; // a bus by one call
+    let hit = Hit::In { attempt: 0, offset: 16 }; // 16 bit times after the start of attempt 0
+    let played = play(&mut ports, 200, &[offer], &[hit])?; // a bus with one call
     println!("{} {}", played.levels.len(), ports[1].counters().transmit); // 200 7
     Ok(())
 }

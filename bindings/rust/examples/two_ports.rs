@@ -1,11 +1,11 @@
-//! Two ports on one wire, each with a frame to send, and what was there at the end: the levels of the bus, and the
-//! state, counters and log of each port. It is what `canbit run` prints for `examples/scenarios/two_ports.toml`.
+//! Two ports on one bus, each with a frame to send. It prints the levels of the bus, and the state, counters and log of
+//! each port: the output of `canbit run` for `examples/scenarios/two_ports.toml`.
 
 use riddlesage::{Frame, Level, Port, Refused, State};
 
 const BIT_TIMES: usize = 103;
 
-/// One bit time: the bus is dominant where a port drives dominant, and each port samples it.
+/// One bit time: the bus is dominant if a port drives dominant, and each port samples it.
 fn bit_time(ports: &mut [Port]) -> Level {
     let bus = ports.iter().fold(Level::Recessive, |bus, port| bus & port.drive());
     for port in ports {

@@ -1,37 +1,37 @@
-//! Ports on a bus, run by one call, and a wire that is passed bit time by bit time.
+//! Ports on a bus that runs with one call, and a bus that is stepped bit time by bit time.
 
 use crate::{sys, Frame, Level, Port, Refused};
 
-/// A frame that is offered to a port of a bus while it runs.
+/// A frame that is queued at a port while the bus runs.
 #[derive(Clone, Copy, Debug, PartialEq, Eq, Hash)]
 pub struct Offer {
-    /// The bit time before which it is offered, the first of the call being 0.
+    /// The bit time before which it is queued; the first of the call is 0.
     pub time: u64,
-    /// The number of the port, the first being 0.
+    /// The index of the port; the first is 0.
     pub port: usize,
     /// The frame.
     pub frame: Frame,
 }
 
-/// A disturbance of one bit time of a bus.
+/// An injected bit error, in one bit time of a bus.
 ///
-/// They are in order first by their kind, as the kinds stand here, and then by their numbers.
+/// Hits are ordered by kind, in the order below, then by the fields of the kind.
 #[derive(Clone, Copy, Debug, PartialEq, Eq, PartialOrd, Ord, Hash)]
 pub enum Hit {
-    /// The level of the wire is inverted in this bit time, the first of the call being 0.
+    /// For all nodes, the level of the bus is inverted in this bit time; the first of the call is 0.
     At(u64),
-    /// It is inverted in an attempt to send a frame.
+    /// For all nodes, it is inverted in a transmission attempt.
     In {
-        /// The attempt, the first of the call being 0.
+        /// The attempt; the first of the call is 0.
         attempt: u64,
-        /// How many bit times behind its start, unless a later one has begun by then.
+        /// How many bit times after its start, unless a later one has begun by then.
         offset: u64,
     },
-    /// One port alone sees the inverse of the level of the wire.
+    /// One port alone samples the inverse of the level of the bus.
     View {
-        /// The bit time, the first of the call being 0.
+        /// The bit time; the first of the call is 0.
         time: u64,
-        /// The number of the port, the first being 0.
+        /// The index of the port; the first is 0.
         port: usize,
     },
 }
@@ -47,19 +47,19 @@ impl Hit {
     }
 }
 
-/// How a bus has run.
+/// The result of [`play`].
 #[derive(Clone, Debug, PartialEq, Eq, Hash)]
 pub struct Played {
-    /// The level of the wire in each bit time.
+    /// The level of the bus in each bit time.
     pub levels: Vec<Level>,
-    /// How many of the frames that were offered a full queue refused.
+    /// How many of the offers a full queue refused.
     pub refused: usize,
 }
 
-/// Runs 1 to 64 ports on a bus for so many bit times, offers frames to them meanwhile, and disturbs it.
+/// Runs a bus of 1 to 64 ports for `bits` bit times, queues frames at their times, and injects bit errors.
 ///
-/// The ports go on from where they stand, and stand where they are behind the call. Before it the wire counts as
-/// recessive.
+/// The ports continue from their present state, and keep the state that they reach. Before the call the bus counts as
+/// recessive for eleven bit times.
 ///
 /// ```
 /// use riddlesage::{play, Frame, Hit, Offer, Port, Refused};
@@ -74,9 +74,12 @@ pub struct Played {
 ///
 /// # Errors
 ///
-/// [`Refused::BadBus`] of ports that are none or too many; [`Refused::NoMemory`]; of the first offer that is wrong, or
-/// else the first hit, [`Refused::BadOrder`], where it is earlier than the one before it or not above it, and
-/// [`Refused::NoSuchPort`]. No port has changed then.
+/// No port has changed if it fails:
+///
+/// - [`Refused::BadBus`]: there are no ports, or more than 64;
+/// - [`Refused::NoMemory`];
+/// - for the first offer that is wrong, or otherwise the first hit: [`Refused::BadOrder`] if the offer is earlier than
+///   the previous one, or the hit not above the previous one; [`Refused::NoSuchPort`].
 pub fn play(ports: &mut [Port], bits: usize, offers: &[Offer], hits: &[Hit]) -> Result<Played, Refused> {
     let at: Vec<_> = ports.iter().map(Port::place).collect();
     let offers: Vec<_> = offers
@@ -85,8 +88,8 @@ pub fn play(ports: &mut [Port], bits: usize, offers: &[Offer], hits: &[Hit]) -> 
         .collect();
     let hits: Vec<_> = hits.iter().map(|hit| hit.plain()).collect();
     let (mut levels, mut refused) = (vec![0; bits], 0);
-    // SAFETY: the ports are in their places, and no two are one, as they are lent here; what the header demands of
-    // pointers is so of references
+    // SAFETY: the ports are live, and no two are the same, because they are borrowed here; references satisfy what the
+    // header requires of pointers
     Refused::of(unsafe {
         sys::riddlesage_play(
             at.as_ptr(),
@@ -103,9 +106,9 @@ pub fn play(ports: &mut [Port], bits: usize, offers: &[Offer], hits: &[Hit]) -> 
     Ok(Played { levels: levels.into_iter().map(Level::of).collect(), refused })
 }
 
-/// A wire between two bit times, for a bus whose ports and controllers of one's own are called bit time by bit time.
+/// The state of a bus between two bit times, without its nodes: for a bus on which some nodes are your own code.
 ///
-/// It begins where no bit time has passed, and counts as recessive.
+/// At first no bit time has passed, and the bus counts as recessive for eleven.
 ///
 /// ```
 /// use riddlesage::{Hit, Level, Port, Refused, Wire};
@@ -113,7 +116,7 @@ pub fn play(ports: &mut [Port], bits: usize, offers: &[Offer], hits: &[Hit]) -> 
 /// let mut port = Port::idle(16, 64)?;
 /// let mut wire = Wire::new();
 /// let mut seen = [Level::Recessive; 2];
-/// let drives = [port.drive(), Level::Dominant]; // a controller of one's own starts a frame
+/// let drives = [port.drive(), Level::Dominant]; // a controller of your own starts a frame
 /// let level = wire.step(&drives, &[Hit::View { time: 0, port: 0 }], &mut seen)?;
 /// assert_eq!((level, seen), (Level::Dominant, [Level::Recessive, Level::Dominant]));
 /// assert_eq!((wire.time(), wire.attempts()), (1, 1));
@@ -126,7 +129,7 @@ pub struct Wire {
 }
 
 impl Wire {
-    /// A wire before its first bit time.
+    /// A bus before its first bit time.
     #[must_use]
     pub fn new() -> Self {
         Self::default()
@@ -138,30 +141,29 @@ impl Wire {
         self.plain.time
     }
 
-    /// How many attempts to send a frame have begun.
+    /// How many transmission attempts have begun.
     #[must_use]
     pub fn attempts(&self) -> u64 {
         self.plain.attempts
     }
 
-    /// Passes one bit time: gives the level of the wire, which is dominant where anyone drives dominant, and inverted where
-    /// it is hit, and writes what each sees.
+    /// Passes one bit time: returns the level of the bus, dominant if any node drives dominant, and inverted if a hit
+    /// falls on it; and writes what each node samples.
     ///
-    /// The hits may stand in any order, and may be others in each bit time; those that don't fall in this one do
-    /// nothing.
+    /// The hits may be in any order, and differ from bit time to bit time. Hits in other bit times have no effect.
     ///
     /// # Errors
     ///
-    /// [`Refused::NoSuchPort`] of a hit on what nobody sees; nothing has changed then.
+    /// [`Refused::NoSuchPort`] for a view of no node; nothing has changed then.
     ///
     /// # Panics
     ///
-    /// Where `seen` is not as long as `drives`.
+    /// If `seen` is not as long as `drives`.
     pub fn step(&mut self, drives: &[Level], hits: &[Hit], seen: &mut [Level]) -> Result<Level, Refused> {
-        assert_eq!(drives.len(), seen.len(), "each who drives the wire sees it");
+        assert_eq!(drives.len(), seen.len(), "`seen` needs a level for each node");
         let hits: Vec<_> = hits.iter().map(|hit| hit.plain()).collect();
         let mut level = 0;
-        // SAFETY: a level is a byte of its number, and what the header demands of pointers is so of references
+        // SAFETY: a Level is a byte with its number; references satisfy what the header requires of pointers
         Refused::of(unsafe {
             sys::riddlesage_wire_step(
                 &mut self.plain,

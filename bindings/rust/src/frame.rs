@@ -1,4 +1,4 @@
-//! Levels and frames, and the coding of frames.
+//! Levels and frames; encoding and decoding of frames.
 
 use std::error::Error;
 use std::fmt;
@@ -6,7 +6,7 @@ use std::ops::{BitAnd, BitAndAssign, Not};
 
 use crate::{sys, Refused};
 
-/// A level of the bus. Dominant overrides recessive: `a & b` is the level of a wire that both drive.
+/// A level: the value of a bit. Dominant overrides recessive: `a & b` is the level of a bus that both drive (2).
 #[derive(Clone, Copy, Debug, PartialEq, Eq, Hash)]
 #[repr(u8)]
 pub enum Level {
@@ -61,9 +61,9 @@ impl fmt::Display for Level {
     }
 }
 
-/// A data frame or a remote frame. What it holds is in range.
+/// A data frame or a remote frame. Its fields are always in range.
 ///
-/// It is written as `S 123 D 2 aa55`.
+/// It is displayed in the format `S 123 D 2 aa55`.
 #[derive(Clone, Copy, PartialEq, Eq, Hash)]
 pub struct Frame {
     identifier: u32,
@@ -74,32 +74,32 @@ pub struct Frame {
 }
 
 impl Frame {
-    /// A data frame with a standard identifier, 0 to 0x7ff, and up to eight bytes.
+    /// A data frame with a standard identifier, 0 to 0x7ff, and at most eight bytes.
     ///
     /// # Errors
     ///
-    /// [`Refused::BadIdentifier`]; [`Refused::BadDlc`] where there are more bytes.
+    /// [`Refused::BadIdentifier`]; [`Refused::BadDlc`] if there are more than eight bytes.
     pub fn standard(identifier: u32, data: &[u8]) -> Result<Self, Refused> {
         Self::new(identifier, false, false, Self::dlc_of(data)?, data)
     }
 
-    /// A data frame with an extended identifier, 0 to `0x1fff_ffff`, and up to eight bytes.
+    /// A data frame with an extended identifier, 0 to `0x1fff_ffff`, and at most eight bytes.
     ///
     /// # Errors
     ///
-    /// As those of [`Frame::standard`].
+    /// Those of [`Frame::standard`].
     pub fn extended(identifier: u32, data: &[u8]) -> Result<Self, Refused> {
         Self::new(identifier, true, false, Self::dlc_of(data)?, data)
     }
 
-    /// A frame by each of its fields. A DLC of 9 to 15 means eight bytes; a remote frame has none.
+    /// A frame from its fields. A DLC of 9 to 15 means eight bytes; a remote frame has none.
     ///
     /// # Errors
     ///
-    /// [`Refused::BadIdentifier`]; [`Refused::BadDlc`], also where the bytes are not as many as the DLC means.
+    /// [`Refused::BadIdentifier`]; [`Refused::BadDlc`], also if the number of bytes is not that of the DLC.
     pub fn new(identifier: u32, extended: bool, remote: bool, dlc: u8, data: &[u8]) -> Result<Self, Refused> {
         let mut frame = Self { identifier, extended, remote, dlc, data: [0; 8] };
-        // what a frame may hold is the library's to say
+        // the library decides which fields are in range
         frame.levels()?;
         if data.len() != frame.data().len() {
             return Err(Refused::BadDlc);
@@ -136,14 +136,14 @@ impl Frame {
         self.dlc
     }
 
-    /// The bytes of a data frame; none of a remote frame.
+    /// The bytes of a data frame; none for a remote frame.
     #[must_use]
     pub fn data(&self) -> &[u8] {
         let count = if self.remote { 0 } else { usize::from(self.dlc).min(8) };
         &self.data[..count]
     }
 
-    /// The levels as the library has them, which are the frame's where it is one.
+    /// Has the library encode these fields, which it refuses if they are no frame.
     fn levels(&self) -> Result<Vec<Level>, Refused> {
         let (mut levels, mut count) = ([0; sys::MOST_LEVELS], 0);
         // SAFETY: each argument is of its size, and no two overlap
@@ -193,23 +193,23 @@ impl fmt::Debug for Frame {
     }
 }
 
-/// The levels of a frame as its sender drives them, from the start of frame to the end of frame, the ACK slot
-/// recessive.
+/// Encodes a frame: the levels that its transmitter drives from the start of frame to the end of frame, with stuff
+/// bits, the ACK slot recessive (3.2.1, 3.2.2, 6).
 ///
 /// # Panics
 ///
-/// Never: a [`Frame`] is one.
+/// Never: the fields of a [`Frame`] are in range.
 #[must_use]
 pub fn encode(frame: &Frame) -> Vec<Level> {
-    frame.levels().expect("a frame is one")
+    frame.levels().expect("the fields of a frame are in range")
 }
 
-/// A frame as it was heard: with the levels that a receiver takes at either value.
+/// A frame as received, with the bits for which a receiver accepts either level.
 #[derive(Clone, Copy, Debug, PartialEq, Eq, Hash)]
 pub struct Heard {
     /// The frame.
     pub frame: Frame,
-    /// Whether a receiver has acknowledged it.
+    /// Whether the ACK slot is dominant.
     pub acknowledged: bool,
     /// The SRR bit; recessive in a standard frame, which has none.
     pub srr: Level,
@@ -217,18 +217,18 @@ pub struct Heard {
     pub r1: Level,
     /// The reserved bit r0.
     pub r0: Level,
-    /// The last level of the end of frame.
+    /// The last bit of the end of frame.
     pub last: Level,
-    /// How many levels the frame has.
+    /// How many levels the frame has, stuff bits included.
     pub length: usize,
 }
 
-/// Levels begin with no frame.
+/// What is wrong with levels that begin with no frame.
 #[derive(Clone, Copy, Debug, PartialEq, Eq, Hash)]
 pub struct Fault {
-    /// What is wrong.
+    /// The kind of the fault.
     pub kind: FaultKind,
-    /// How many levels stand before the first one that is wrong.
+    /// How many levels come before the first wrong one.
     pub place: usize,
 }
 
@@ -237,36 +237,36 @@ pub struct Fault {
 pub enum FaultKind {
     /// The levels end before the frame does.
     Short,
-    /// The first level is recessive, and no start of frame.
+    /// The first level is recessive, so it is no start of frame.
     NoStart,
-    /// A stuff place repeats the level before it.
+    /// Stuff error: a sixth equal level in a row (7.1).
     Stuff,
-    /// The check sequence is wrong.
+    /// The CRC sequence is wrong.
     Crc,
-    /// A delimiter or one of the first six levels of the end of frame is dominant.
+    /// Form error: a delimiter, or one of the first six bits of the end of frame, is dominant (7.1).
     Form,
 }
 
 impl fmt::Display for Fault {
     fn fmt(&self, out: &mut fmt::Formatter<'_>) -> fmt::Result {
-        let name = match self.kind {
-            FaultKind::Short => "short",
-            FaultKind::NoStart => "no start",
-            FaultKind::Stuff => "stuff",
-            FaultKind::Crc => "crc",
-            FaultKind::Form => "form",
+        let (name, meaning) = match self.kind {
+            FaultKind::Short => ("short", "the levels end before the frame does"),
+            FaultKind::NoStart => ("no start", "the first level is recessive, so it is no start of frame"),
+            FaultKind::Stuff => ("stuff", "stuff error, a sixth equal level in a row"),
+            FaultKind::Crc => ("crc", "the CRC sequence is wrong"),
+            FaultKind::Form => ("form", "form error, a bit of fixed form is dominant"),
         };
-        write!(out, "{name} at {}", self.place)
+        write!(out, "{name} at {}: {meaning}", self.place)
     }
 }
 
 impl Error for Fault {}
 
-/// What is heard of the frame at the front of the levels. What stands behind it changes nothing.
+/// Decodes the frame with which the levels begin. Later levels have no effect.
 ///
 /// # Errors
 ///
-/// A [`Fault`] with its place, where no frame stands there.
+/// A [`Fault`] with its place, if the levels begin with no frame.
 pub fn decode(levels: &[Level]) -> Result<Heard, Fault> {
     let (mut heard, mut place) = (sys::Heard::default(), 0);
     // SAFETY: a Level is a byte; each argument is of its size, and no two overlap
@@ -288,7 +288,7 @@ pub fn decode(levels: &[Level]) -> Result<Heard, Fault> {
         sys::STUFF => FaultKind::Stuff,
         sys::CRC => FaultKind::Crc,
         sys::FORM => FaultKind::Form,
-        _ => unreachable!("riddlesage_decode answers {status}"),
+        _ => unreachable!("riddlesage_decode returns status {status}"),
     };
     Err(Fault { kind, place })
 }

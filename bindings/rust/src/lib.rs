@@ -1,5 +1,8 @@
-//! A classical CAN controller at whole bit times (Bosch CAN Specification 2.0 part B, the classical frames of ISO
-//! 11898-1), as a golden model.
+//! A reference model of a classical CAN controller, bit by bit (Bosch CAN Specification 2.0 part B, and the classical
+//! frames of ISO 11898-1). Numbers in brackets are sections of Bosch, part B.
+//!
+//! One step is one bit time. A [`Port`] is a CAN node: a controller with a transmit queue and a log. Bit timing,
+//! synchronisation and CAN FD are not modelled.
 //!
 //! ```
 //! use riddlesage::{Event, Frame, Port};
@@ -20,8 +23,8 @@
 //! # Ok::<(), riddlesage::Refused>(())
 //! ```
 //!
-//! The calls are those of `riddlesage.h`. What each does is proved; this crate is not. What can't be a level, a flag or
-//! an identifier can't be written here, so that few calls can be refused.
+//! The calls are those of `riddlesage.h`. The Rattle functions that they use are proved; this crate is only tested. The
+//! types exclude most invalid arguments, so few calls can fail.
 
 mod bus;
 mod frame;
@@ -38,27 +41,27 @@ pub use frame::{decode, encode, Fault, FaultKind, Frame, Heard, Level};
 pub use port::{Counters, Entry, Event, EventKind, Phase, Port, Rule, Standing, State};
 pub use text::{decode_levels, decode_trace, run, ScenarioFault, TraceFault};
 
-/// Why a call was refused; nothing has changed then.
+/// Why a call failed. It has changed nothing.
 #[derive(Clone, Copy, Debug, PartialEq, Eq, Hash)]
 #[non_exhaustive]
 pub enum Refused {
     /// There is no memory for the port, or for the run of a bus.
     NoMemory,
-    /// The queue holds as many frames as it has room for.
+    /// The transmit queue is full.
     QueueFull,
     /// The identifier is above 0x7ff and not extended, or above `0x1fff_ffff`.
     BadIdentifier,
-    /// The DLC is above 15, or the data are not as long as it says.
+    /// The DLC is above 15, or the data do not have the length that it means.
     BadDlc,
-    /// More than two overload frames were asked for.
+    /// More than two overload frames were requested.
     BadCount,
     /// There are no levels to sample.
     NoLevels,
-    /// There are no ports for a bus, or more than 64.
+    /// A bus has no ports, or more than 64.
     BadBus,
     /// An offer or a hit names no port of the bus.
     NoSuchPort,
-    /// An offer is earlier than the one before it, or a hit is not above it.
+    /// An offer is earlier than the previous one, or a hit is not above the previous one.
     BadOrder,
 }
 
@@ -75,8 +78,8 @@ impl Refused {
             sys::BAD_BUS => Self::BadBus,
             sys::NO_SUCH_PORT => Self::NoSuchPort,
             sys::BAD_ORDER => Self::BadOrder,
-            // by the header these come of arguments that this crate never makes
-            _ => unreachable!("riddlesage answers {status}"),
+            // according to the header the others need arguments that this crate never passes
+            _ => unreachable!("riddlesage returns status {status}"),
         })
     }
 }
@@ -84,15 +87,15 @@ impl Refused {
 impl fmt::Display for Refused {
     fn fmt(&self, out: &mut fmt::Formatter<'_>) -> fmt::Result {
         out.write_str(match self {
-            Self::NoMemory => "no memory",
-            Self::QueueFull => "queue full",
-            Self::BadIdentifier => "bad identifier",
-            Self::BadDlc => "bad dlc",
-            Self::BadCount => "bad count",
-            Self::NoLevels => "no levels",
-            Self::BadBus => "bad bus",
-            Self::NoSuchPort => "no such port",
-            Self::BadOrder => "bad order",
+            Self::NoMemory => "no memory: there is none for the port or the bus",
+            Self::QueueFull => "queue full: the transmit queue is full",
+            Self::BadIdentifier => "bad identifier: 0 to 0x7ff, or to 0x1fffffff if it is extended",
+            Self::BadDlc => "bad dlc: 0 to 15, with as many data bytes as it means",
+            Self::BadCount => "bad count: 0 to 2 overload frames can be requested",
+            Self::NoLevels => "no levels: there are no levels to sample",
+            Self::BadBus => "bad bus: a bus has 1 to 64 ports",
+            Self::NoSuchPort => "no such port: an offer or a hit names no port of the bus",
+            Self::BadOrder => "bad order: offers or hits are not in order",
         })
     }
 }
@@ -106,7 +109,7 @@ impl Error for Refused {}
 /// Never: it is ASCII.
 #[must_use]
 pub fn version() -> &'static str {
-    // SAFETY: the library gives a string that ends with 0, and never frees it
+    // SAFETY: the library returns a string with a terminating 0, and never frees it
     let version = unsafe { CStr::from_ptr(sys::riddlesage_version()) };
     version.to_str().expect("a version is ASCII")
 }

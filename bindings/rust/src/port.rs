@@ -1,33 +1,33 @@
-//! Ports.
+//! Ports: CAN nodes.
 
 use std::ptr::NonNull;
 
 use crate::{sys, Frame, Level, Refused};
 
-/// What a bit time brings to a port.
+/// The event of a bit time, as a port reports it.
 #[derive(Clone, Copy, Debug, PartialEq, Eq, Hash)]
 pub enum Event {
-    /// This frame was sent: the last level of its end of frame has gone out.
+    /// This frame was transmitted: reported in the last bit of its end of frame (5).
     Sent(Frame),
-    /// This frame was received: the last level but one of its end of frame has come in.
+    /// This frame was received: reported in the last bit but one of its end of frame (5).
     Received(Frame),
-    /// Arbitration was lost.
+    /// Arbitration was lost: the port continues as a receiver (3.2.1).
     Lost,
-    /// A bit differs from the one that was sent.
+    /// The sampled bit differs from the one that was sent (7.1).
     BitError,
-    /// A stuff place repeats the level before it.
+    /// A sixth equal bit in a row, where a stuff bit is due (7.1).
     StuffError,
-    /// The CRC sequence is not that of the levels before it.
+    /// The CRC sequence is wrong: reported in the ACK delimiter (7.1, 7.2).
     CrcError,
-    /// A bit of fixed form has the other level.
+    /// A bit of fixed form has the wrong level (7.1).
     FormError,
-    /// No receiver acknowledges.
+    /// The transmitter sees a recessive ACK slot (7.1).
     AckError,
-    /// An overload flag starts with the next bit time.
+    /// An overload flag starts with the next bit time (3.2.4).
     Overload,
-    /// The port is bus off from the next bit time on.
+    /// The port is bus off from the next bit time on (8).
     WentOff,
-    /// Bus off has ended.
+    /// Bus off has ended: 128 times eleven recessive bits have passed (8).
     Recovered,
 }
 
@@ -49,30 +49,30 @@ impl Event {
     }
 }
 
-/// What a bit time brings to a port, without the frame where one was sent or received.
+/// The event of a bit time, without the frame that was sent or received.
 #[derive(Clone, Copy, Debug, PartialEq, Eq, Hash)]
 pub enum EventKind {
-    /// A frame was sent.
+    /// A frame was transmitted.
     Sent,
     /// A frame was received.
     Received,
-    /// Arbitration was lost.
+    /// Arbitration was lost: the port continues as a receiver (3.2.1).
     Lost,
-    /// A bit differs from the one that was sent.
+    /// The sampled bit differs from the one that was sent (7.1).
     BitError,
-    /// A stuff place repeats the level before it.
+    /// A sixth equal bit in a row, where a stuff bit is due (7.1).
     StuffError,
-    /// The CRC sequence is not that of the levels before it.
+    /// The CRC sequence is wrong: reported in the ACK delimiter (7.1, 7.2).
     CrcError,
-    /// A bit of fixed form has the other level.
+    /// A bit of fixed form has the wrong level (7.1).
     FormError,
-    /// No receiver acknowledges.
+    /// The transmitter sees a recessive ACK slot (7.1).
     AckError,
-    /// An overload flag starts with the next bit time.
+    /// An overload flag starts with the next bit time (3.2.4).
     Overload,
-    /// The port is bus off from the next bit time on.
+    /// The port is bus off from the next bit time on (8).
     WentOff,
-    /// Bus off has ended.
+    /// Bus off has ended: 128 times eleven recessive bits have passed (8).
     Recovered,
 }
 
@@ -91,19 +91,19 @@ impl EventKind {
             9 => Self::Overload,
             10 => Self::WentOff,
             11 => Self::Recovered,
-            _ => unreachable!("riddlesage tells event {code}"),
+            _ => unreachable!("riddlesage reports event {code}"),
         })
     }
 }
 
-/// The phase in which a port is before a bit time, and how many of its levels have come.
+/// The phase of a port before a bit time, and the progress within it.
 #[derive(Clone, Copy, Debug, PartialEq, Eq, Hash)]
 pub enum Phase {
-    /// Not yet on the bus: so many recessive levels in a row, 0 to 10.
+    /// Bus integration: how many recessive levels in a row so far, 0 to 10.
     Joining(u8),
-    /// Between frames.
+    /// Between frames, and free to send.
     Idle,
-    /// So many unstuffed levels of a frame, 1 to 118.
+    /// Start of frame to CRC sequence: how many bits so far, without stuff bits, 1 to 118.
     Stuffed(u8),
     /// The CRC delimiter is next.
     CrcDelimiter,
@@ -111,23 +111,23 @@ pub enum Phase {
     AckSlot,
     /// The ACK delimiter is next.
     AckDelimiter,
-    /// 0 to 6.
+    /// How many of its seven bits have passed, 0 to 6.
     EndOfFrame(u8),
-    /// An active error flag, 0 to 5.
+    /// Active error flag: how many of its six bits have passed, 0 to 5.
     ActiveFlag(u8),
-    /// A passive error flag: the last so many levels are equal, 0 to 5.
+    /// Passive error flag: how many equal levels came last, 0 to 5.
     PassiveFlag(u8),
-    /// 0 to 5.
+    /// How many of its six bits have passed, 0 to 5.
     OverloadFlag(u8),
-    /// Behind a flag: so many dominant levels, modulo 8.
+    /// After a flag, until a recessive level: how many dominant levels so far, modulo 8.
     BehindFlag(u8),
-    /// The delimiter behind a flag, 1 to 7.
+    /// Error or overload delimiter: how many of its eight bits have passed, 1 to 7.
     Delimiter(u8),
-    /// 0 to 2.
+    /// How many of its three bits have passed, 0 to 2.
     Intermission(u8),
-    /// Suspend transmission, 0 to 7.
+    /// Suspend transmission: how many of its eight bits have passed, 0 to 7.
     Suspend(u8),
-    /// So many rows of eleven recessive levels, 0 to 127.
+    /// How many times eleven recessive levels have passed, 0 to 127.
     BusOff(u8),
 }
 
@@ -149,20 +149,20 @@ impl Phase {
             12 => Self::Intermission(place),
             13 => Self::Suspend(place),
             14 => Self::BusOff(place),
-            _ => unreachable!("riddlesage tells phase {code}"),
+            _ => unreachable!("riddlesage returns phase {code}"),
         }
     }
 }
 
-/// A rule of `docs/ACCESS.md`, which decides in a bit time.
+/// The rule of `docs/ACCESS.md` that decides in a bit time.
 #[derive(Clone, Copy, Debug, PartialEq, Eq, Hash)]
 #[non_exhaustive]
 pub enum Rule {
-    /// Not yet on the bus.
+    /// Bus integration.
     Joining,
-    /// What begins a frame.
+    /// The start of a frame.
     StartOfFrame,
-    /// A sender behind arbitration.
+    /// A transmitter after arbitration.
     KeptFrame,
     /// Intermission.
     Intermission,
@@ -170,19 +170,19 @@ pub enum Rule {
     SuspendTransmission,
     /// Bus off.
     BusOff,
-    /// A sender up to its RTR bit.
+    /// A transmitter up to and including its RTR bit.
     Arbitration,
-    /// The stuffed part of a frame.
+    /// A receiver from the start of frame to the CRC sequence.
     StuffPlaces,
-    /// The levels of fixed form.
+    /// The bits of fixed form.
     FixedForm,
     /// The ACK slot.
     Acknowledgement,
     /// An active or a passive error flag.
     ErrorFlags,
-    /// Behind a flag, before the first recessive level.
+    /// After a flag, before the first recessive level.
     BehindAFlag,
-    /// The delimiter behind a flag.
+    /// The error or overload delimiter.
     Delimiter,
     /// An overload flag.
     OverloadFlags,
@@ -205,23 +205,23 @@ impl Rule {
             14 => Self::BehindAFlag,
             15 => Self::Delimiter,
             16 => Self::OverloadFlags,
-            _ => unreachable!("riddlesage tells rule {code}"),
+            _ => unreachable!("riddlesage returns rule {code}"),
         }
     }
 }
 
-/// Where a port stands before a bit time.
+/// The protocol state of a port before a bit time.
 #[derive(Clone, Copy, Debug, PartialEq, Eq, Hash)]
 pub struct Standing {
     /// Its phase.
     pub phase: Phase,
-    /// Whether it is the sender of the frame on the bus.
+    /// Whether it is the transmitter of the frame on the bus.
     pub sender: bool,
     /// The rule that decides in the phase.
     pub rule: Rule,
 }
 
-/// The state of fault confinement.
+/// The state of fault confinement (8).
 #[derive(Clone, Copy, Debug, PartialEq, Eq, Hash)]
 pub enum State {
     /// Both counters are at most 127.
@@ -241,27 +241,28 @@ pub struct Counters {
     pub receive: u16,
 }
 
-/// A frame in a port's log.
+/// An entry of a port's log.
 #[derive(Clone, Copy, Debug, PartialEq, Eq, Hash)]
 pub struct Entry {
     /// The frame.
     pub frame: Frame,
-    /// Whether the port sent it, or received it.
+    /// Whether the port sent it; otherwise it received it.
     pub sent: bool,
 }
 
-/// A controller with a queue of frames to send and a log of the frames that were on the bus.
+/// A CAN node: a controller with a transmit queue, and a log of the frames that it has sent and received.
 #[derive(Debug)]
 pub struct Port {
-    /// A port that was made, which the library keeps until it is dropped.
+    /// A port that the library has allocated, and frees when this is dropped.
     at: NonNull<sys::Port>,
 }
 
-// SAFETY: a port belongs to no thread. It is no `Sync`: calls for one port must not run at the same time.
+// SAFETY: a port belongs to no thread. It is not `Sync`: calls for one port must not run at the same time.
 unsafe impl Send for Port {}
 
 impl Port {
-    /// A port that is on the bus and idle, with room for so many frames that wait and so many entries of the log.
+    /// Makes a port that is on the bus and idle, with the capacity of its transmit queue, in frames, and of its log, in
+    /// entries.
     ///
     /// # Errors
     ///
@@ -270,7 +271,8 @@ impl Port {
         Self::made(queue, log, sys::riddlesage_port_idle)
     }
 
-    /// A port that waits for eleven recessive levels in a row before it is on the bus.
+    /// Makes a port that begins with bus integration: it waits for eleven recessive levels in a row before it takes
+    /// part.
     ///
     /// # Errors
     ///
@@ -284,49 +286,50 @@ impl Port {
         log: usize,
         make: unsafe extern "C" fn(*mut sys::Port, usize, usize) -> sys::Status,
     ) -> Result<Self, Refused> {
-        // SAFETY: this needs nothing
+        // SAFETY: the call has no requirements
         let at = NonNull::new(unsafe { sys::riddlesage_port_new() }).ok_or(Refused::NoMemory)?;
         let port = Self { at };
-        // SAFETY: the port is in its place
+        // SAFETY: the port is at the address at which the library allocated it
         Refused::of(unsafe { make(port.at.as_ptr(), queue, log) })?;
         Ok(port)
     }
 
-    /// A port that is what this one is, and does the same from then on.
+    /// Copies the port: from then on the copy behaves as this one does.
     ///
     /// # Errors
     ///
     /// [`Refused::NoMemory`].
     pub fn copy(&self) -> Result<Self, Refused> {
-        // SAFETY: this needs nothing
+        // SAFETY: the call has no requirements
         let at = NonNull::new(unsafe { sys::riddlesage_port_new() }).ok_or(Refused::NoMemory)?;
         let port = Self { at };
-        // SAFETY: both ports are in their places; this one stays as it is
+        // SAFETY: both ports are at their addresses; this one does not change
         Refused::of(unsafe { sys::riddlesage_port_copy(port.at.as_ptr(), self.at.as_ptr()) })?;
         Ok(port)
     }
 
-    /// Where the library keeps it.
+    /// Its address.
     pub(crate) fn place(&self) -> *mut sys::Port {
         self.at.as_ptr()
     }
 
-    /// For calls that are refused nothing, as the port is live.
+    /// Checks calls that cannot fail, because the port is live.
     fn sure(status: sys::Status) {
-        assert_eq!(status, sys::OK, "a port that is live is refused");
+        assert_eq!(status, sys::OK, "a call of a live port failed");
     }
 
-    /// Offers a frame, which waits behind those that were offered before.
+    /// Queues a frame for transmission.
     ///
     /// # Errors
     ///
     /// [`Refused::QueueFull`].
     pub fn offer(&mut self, frame: &Frame) -> Result<(), Refused> {
-        // SAFETY: here and below the port is in its place, and what the header demands of pointers is so of references
+        // SAFETY: here and below the port is at its address, and references satisfy what the header requires of
+        // pointers
         Refused::of(unsafe { sys::riddlesage_port_offer(self.at.as_ptr(), &frame.plain()) })
     }
 
-    /// Asks for so many overload frames of the port's own, 0 to 2, in place of an earlier wish.
+    /// Requests 0 to 2 overload frames, in place of an earlier request (3.2.4).
     ///
     /// # Errors
     ///
@@ -340,12 +343,12 @@ impl Port {
     #[must_use]
     pub fn drive(&self) -> Level {
         let mut level = 0;
-        // SAFETY: as for an offer; the port stays as it is
+        // SAFETY: as for an offer; the port does not change
         Self::sure(unsafe { sys::riddlesage_port_drive(self.at.as_ptr(), &mut level) });
         Level::of(level)
     }
 
-    /// Samples the level that the bus has in this bit time, and tells what it brought, if anything.
+    /// Passes one bit time: samples the level of the bus, and returns the event, if there is one.
     pub fn sample(&mut self, bus: Level) -> Option<Event> {
         let (mut code, mut frame) = (0, sys::Frame::default());
         // SAFETY: as for an offer
@@ -353,8 +356,8 @@ impl Port {
         Event::of(code, &frame)
     }
 
-    /// Samples these levels, one a bit time, whatever the port drives. Gives the level that it drove in each, and what
-    /// each brought, if anything.
+    /// Samples these levels, one per bit time, whatever the port drives. Returns the level that it drove in each, and
+    /// the event of each, if there is one.
     ///
     /// # Errors
     ///
@@ -379,7 +382,7 @@ impl Port {
     #[must_use]
     pub fn counters(&self) -> Counters {
         let mut counters = Counters::default();
-        // SAFETY: as for an offer; the port stays as it is
+        // SAFETY: as for an offer; the port does not change
         Self::sure(unsafe {
             sys::riddlesage_port_counters(self.at.as_ptr(), &mut counters.transmit, &mut counters.receive)
         });
@@ -390,7 +393,7 @@ impl Port {
     #[must_use]
     pub fn state(&self) -> State {
         let mut state = 0;
-        // SAFETY: as for an offer; the port stays as it is
+        // SAFETY: as for an offer; the port does not change
         Self::sure(unsafe { sys::riddlesage_port_state(self.at.as_ptr(), &mut state) });
         match state {
             0 => State::ErrorActive,
@@ -399,29 +402,29 @@ impl Port {
         }
     }
 
-    /// Where the port stands before the next bit time, and the rule that decides there.
+    /// The phase of the port before the next bit time, and the rule that decides in it.
     #[must_use]
     pub fn phase(&self) -> Standing {
         let mut at = sys::Standing::default();
-        // SAFETY: as for an offer; the port stays as it is
+        // SAFETY: as for an offer; the port does not change
         Self::sure(unsafe { sys::riddlesage_port_phase(self.at.as_ptr(), &mut at) });
         Standing { phase: Phase::of(at.phase, at.place), sender: at.sender != 0, rule: Rule::of(at.rule) }
     }
 
-    /// How many entries the log had no room for.
+    /// The number of entries for which the log had no capacity.
     #[must_use]
     pub fn missed(&self) -> u32 {
         let mut count = 0;
-        // SAFETY: as for an offer; the port stays as it is
+        // SAFETY: as for an offer; the port does not change
         Self::sure(unsafe { sys::riddlesage_port_missed(self.at.as_ptr(), &mut count) });
         count
     }
 
-    /// The entry of the log with this number, the oldest having 0.
+    /// The entry of the log with this number, the oldest being 0.
     #[must_use]
     pub fn entry(&self, number: usize) -> Option<Entry> {
         let (mut frame, mut sent) = (sys::Frame::default(), 0);
-        // SAFETY: as for an offer; the port stays as it is
+        // SAFETY: as for an offer; the port does not change
         let status = unsafe { sys::riddlesage_port_entry(self.at.as_ptr(), number, &mut frame, &mut sent) };
         if status == sys::NO_ENTRY {
             return None;
@@ -438,7 +441,7 @@ impl Port {
     #[must_use]
     pub fn log(&self) -> impl ExactSizeIterator<Item = Entry> + '_ {
         let mut count = 0;
-        // SAFETY: as for an offer; the port stays as it is
+        // SAFETY: as for an offer; the port does not change
         Self::sure(unsafe { sys::riddlesage_port_log_length(self.at.as_ptr(), &mut count) });
         (0..count).map(|number| self.entry(number).expect("the log has as many entries"))
     }
@@ -446,7 +449,7 @@ impl Port {
 
 impl Drop for Port {
     fn drop(&mut self) {
-        // SAFETY: the port is in its place, and no call has a use for it any more
+        // SAFETY: the port is at its address, and no call uses it any more
         Self::sure(unsafe { sys::riddlesage_port_delete(self.at.as_ptr()) });
     }
 }

@@ -1,4 +1,4 @@
-//! The calls of `riddlesage.h`, as they are.
+//! The declarations of `riddlesage.h`.
 
 use std::ffi::{c_char, c_int};
 use std::marker::{PhantomData, PhantomPinned};
@@ -64,7 +64,7 @@ pub const HIT_AT: u8 = 0;
 pub const HIT_IN: u8 = 1;
 pub const HIT_VIEW: u8 = 2;
 
-/// A port that the library keeps: only its place is known here.
+/// A port that the library has allocated: only its address is known here.
 #[repr(C)]
 pub struct Port {
     _fields: [u8; 0],

@@ -1,20 +1,20 @@
-//! Scenarios and traces, as texts.
+//! Scenarios and traces as text.
 
 use std::error::Error;
 use std::fmt;
 
 use crate::{sys, Level};
 
-/// Room that most texts have enough of.
+/// The first capacity for a text, which suffices for most.
 const ROOM: usize = 1 << 16;
 
 /// Why there is no report of a scenario.
 #[derive(Clone, Debug, PartialEq, Eq, Hash)]
 #[non_exhaustive]
 pub enum ScenarioFault {
-    /// The text says no scenario: the first field that is wrong, as `port[0].log`.
+    /// The text is not a valid scenario: the first field that is wrong, such as `port[0].log`.
     Field(String),
-    /// There is no memory for the run.
+    /// There is no memory for the simulation.
     NoMemory,
     /// The report has more than 33,554,432 bytes.
     TooLong,
@@ -23,22 +23,23 @@ pub enum ScenarioFault {
 impl fmt::Display for ScenarioFault {
     fn fmt(&self, out: &mut fmt::Formatter<'_>) -> fmt::Result {
         match self {
-            Self::Field(field) => write!(out, "bad scenario: {field}"),
-            Self::NoMemory => out.write_str("no memory"),
-            Self::TooLong => out.write_str("no room"),
+            Self::Field(field) if field == "toml" => out.write_str("bad scenario: toml: not a valid TOML document"),
+            Self::Field(field) => write!(out, "bad scenario: {field}: missing, unknown or not a valid value"),
+            Self::NoMemory => out.write_str("no memory: there is none for the simulation"),
+            Self::TooLong => out.write_str("no room: the report has more than 33,554,432 bytes"),
         }
     }
 }
 
 impl Error for ScenarioFault {}
 
-/// Why there are not all lines of a trace.
+/// Why the lines of a trace are missing or incomplete.
 #[derive(Clone, Debug, PartialEq, Eq, Hash)]
 #[non_exhaustive]
 pub enum TraceFault {
-    /// A byte is neither a level, nor a blank, nor of a line end.
+    /// A byte is neither a level, nor a space, nor part of a line end.
     BadByte {
-        /// How many bytes stand before it.
+        /// How many bytes come before it.
         place: usize,
         /// The lines of the levels before it.
         lines: String,
@@ -52,16 +53,17 @@ pub enum TraceFault {
 impl fmt::Display for TraceFault {
     fn fmt(&self, out: &mut fmt::Formatter<'_>) -> fmt::Result {
         match self {
-            Self::BadByte { place, .. } => write!(out, "bad byte at {place}"),
-            Self::NoMemory => out.write_str("no memory"),
-            Self::TooLong => out.write_str("no room"),
+            Self::BadByte { place, .. } => write!(out, "bad byte at {place}: it is not a level"),
+            Self::NoMemory => out.write_str("no memory: there is none for the lines"),
+            Self::TooLong => out.write_str("no room: the lines have more than 33,554,432 bytes"),
         }
     }
 }
 
 impl Error for TraceFault {}
 
-/// What a call answers, and the text that it writes, once there is room for it.
+/// The status of a call and the text that it writes; if the first buffer is too small, it is called again with a larger
+/// one.
 fn written(mut call: impl FnMut(&mut [u8], &mut usize) -> sys::Status) -> (sys::Status, String) {
     let mut text = vec![0; ROOM];
     let mut count = 0;
@@ -74,7 +76,7 @@ fn written(mut call: impl FnMut(&mut [u8], &mut usize) -> sys::Status) -> (sys::
     (status, String::from_utf8_lossy(&text).into_owned())
 }
 
-/// The report of a scenario, a document in TOML: what `canbit run` writes.
+/// Simulates a scenario, a TOML document, and returns its report: the output of `canbit run`.
 ///
 /// # Errors
 ///
@@ -82,7 +84,7 @@ fn written(mut call: impl FnMut(&mut [u8], &mut usize) -> sys::Status) -> (sys::
 pub fn run(scenario: &str) -> Result<String, ScenarioFault> {
     let mut field = [0; sys::FIELD_ROOM];
     let (status, report) = written(|text, count| {
-        // SAFETY: what the header demands of pointers is so of references, and the field has the room that it names
+        // SAFETY: references satisfy what the header requires of pointers, and `field` has the capacity that it names
         unsafe {
             sys::riddlesage_run(
                 scenario.as_ptr(),
@@ -102,12 +104,12 @@ pub fn run(scenario: &str) -> Result<String, ScenarioFault> {
             let name = field.iter().take_while(|byte| **byte != 0).map(|byte| char::from(*byte)).collect();
             Err(ScenarioFault::Field(name))
         }
-        _ => unreachable!("riddlesage_run answers {status}"),
+        _ => unreachable!("riddlesage_run returns status {status}"),
     }
 }
 
-/// A line for each frame and each fault of a trace, which is a text of `0` and `1` with blanks and line ends: what
-/// `canbit decode` writes.
+/// Decodes a trace, a text of `0` and `1` with spaces and line ends, and returns a line for each frame and fault: the
+/// output of `canbit decode`.
 ///
 /// # Errors
 ///
@@ -123,11 +125,11 @@ pub fn decode_trace(trace: &str) -> Result<String, TraceFault> {
     decoded(status, place, lines)
 }
 
-/// A line for each frame and each fault in levels: what [`decode_trace`] gives for their text.
+/// Decodes a trace given as levels, and returns the lines of [`decode_trace`] for the same levels as text.
 ///
 /// # Errors
 ///
-/// [`TraceFault`], but no bad byte.
+/// [`TraceFault`], but not a bad byte.
 pub fn decode_levels(levels: &[Level]) -> Result<String, TraceFault> {
     let (at, mut place) = (levels.as_ptr().cast(), 0);
     let (status, lines) = written(|text, count| {
@@ -137,13 +139,13 @@ pub fn decode_levels(levels: &[Level]) -> Result<String, TraceFault> {
     decoded(status, place, lines)
 }
 
-/// The lines of a trace, or why these are not all.
+/// The lines of a trace, or why they are missing or incomplete.
 fn decoded(status: sys::Status, place: usize, lines: String) -> Result<String, TraceFault> {
     match status {
         sys::OK => Ok(lines),
         sys::NO_MEMORY => Err(TraceFault::NoMemory),
         sys::NO_ROOM => Err(TraceFault::TooLong),
         sys::BAD_BYTE => Err(TraceFault::BadByte { place, lines }),
-        _ => unreachable!("a trace is answered {status}"),
+        _ => unreachable!("decoding a trace returns status {status}"),
     }
 }

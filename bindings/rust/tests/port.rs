@@ -21,7 +21,8 @@ fn a_frame_goes_both_ways() {
     let heard = decode(&levels).expect("a frame");
     assert_eq!((heard.frame, heard.length, heard.acknowledged), (frame(), 62, false));
     let fault = decode(&levels[..20]).expect_err("a part of a frame");
-    assert_eq!((fault.kind, fault.place, fault.to_string().as_str()), (FaultKind::Short, 20, "short at 20"));
+    assert_eq!((fault.kind, fault.place), (FaultKind::Short, 20));
+    assert_eq!(fault.to_string(), "short at 20: the levels end before the frame does");
     assert_eq!(decode(&[]).map_err(|fault| fault.kind), Err(FaultKind::Short));
     assert_eq!(decode(&[Level::Recessive]).map_err(|fault| fault.kind), Err(FaultKind::NoStart));
 }

@@ -1,5 +1,5 @@
-/* An adapter of the conformance kit with the small controller inside: the line protocol of conformance/README.md
- * over standard input and output. Built by
+/* An adapter of the conformance kit with the small controller inside. It speaks the line protocol of
+ * conformance/README.md over standard input and output. To build it:
  *
  *     cc -std=c99 -O2 -o controller conformance/adapters/controller/[a-z]*.c
  */
@@ -11,7 +11,7 @@
 #include "controller.h"
 #include "text.h"
 
-enum { LINE_ROOM = 8194 };      /* the longest line, its end and a zero */
+enum { LINE_SIZE = 8194 };      /* the longest line, its line end and a zero */
 
 static const char *const event_words[] = {
     [SENT] = "sent ",
@@ -32,7 +32,7 @@ static void refuse(const char *why)
     printf("error %s\n", why);
 }
 
-static void tell(size_t place, enum event event, const struct frame *frame)
+static void print_event(size_t place, enum event event, const struct frame *frame)
 {
     printf("event %lu %s", (unsigned long)place, event_words[event]);
     if (event == SENT || event == RECEIVED)
@@ -40,14 +40,14 @@ static void tell(size_t place, enum event event, const struct frame *frame)
     putchar('\n');
 }
 
-/* Plays bit times: `0` and `1` are the tester's levels, and with `f` the controller sees recessive. */
+/* Plays bit times. `0` and `1` are the tester's levels; with `f` the controller sees a recessive level. */
 static void play(struct controller *can, const char *levels)
 {
-    static char drove[LINE_ROOM];
+    static char drove[LINE_SIZE];
     size_t bits = strspn(levels, "01f");
 
     if (bits == 0 || levels[bits] != '\0') {
-        refuse("these are no levels");
+        refuse("expected levels: 0, 1 or f");
         return;
     }
     for (size_t place = 0; place < bits; place++) {
@@ -57,7 +57,7 @@ static void play(struct controller *can, const char *levels)
 
         drove[place] = driven == DOMINANT ? '0' : '1';
         if (event != NOTHING)
-            tell(place, event, &can->told);
+            print_event(place, event, &can->event_frame);
     }
     drove[bits] = '\0';
     printf("drove %s\n", drove);
@@ -68,7 +68,7 @@ static void begin_case(struct controller *can, const char *words)
     const char *start = strchr(words, ' ');
 
     if (start == NULL || (strcmp(start, " idle") != 0 && strcmp(start, " joining") != 0)) {
-        refuse("a case has a name, and starts idle or joining");
+        refuse("expected a name, and idle or joining");
         return;
     }
     can_begin(can, strcmp(start, " joining") == 0);
@@ -80,7 +80,7 @@ static void offer(struct controller *can, const char *text)
     struct frame frame;
 
     if (!read_frame(text, &frame))
-        refuse("this is no frame");
+        refuse("expected a frame, such as S 123 D 1 c3");
     else if (!can_offer(can, &frame))
         refuse("the queue is full");
 }
@@ -90,7 +90,7 @@ static void hold(struct controller *can, const char *number)
     if (strlen(number) == 1 && *number >= '0' && *number <= '2')
         can_hold(can, (unsigned)(*number - '0'));
     else
-        refuse("a wish is for 0 to 2 overload frames");
+        refuse("expected 0 to 2 overload frames");
 }
 
 static void print_state(const struct controller *can)
@@ -114,13 +114,13 @@ static void answer(struct controller *can, const char *line)
     else if (strcmp(line, "end") == 0)
         print_state(can);
     else
-        refuse("this line is none of the protocol");
+        refuse("unknown command");
 }
 
 int main(void)
 {
     static struct controller can;
-    static char line[LINE_ROOM];
+    static char line[LINE_SIZE];
 
     can_begin(&can, false);
     puts("can-kit 1 small controller in C");

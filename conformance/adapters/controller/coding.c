@@ -9,7 +9,7 @@ static enum level opposite(enum level level)
     return level == DOMINANT ? RECESSIVE : DOMINANT;
 }
 
-/* The check sequence of one level more: a step of the division by the generator. */
+/* The CRC with one more level: a step of the division by the generator polynomial. */
 static uint16_t crc_step(uint16_t crc, enum level level)
 {
     bool divides = (crc >> (CRC_LEVELS - 1)) != (unsigned)level;

@@ -1,47 +1,47 @@
-/* The stuffed part of a frame, from its start up to the check sequence with its stuff bits: made before it is sent,
- * and taken level by level as it is received (docs/FRAMES.md). */
+/* The stuffed part of a frame: start of frame to CRC sequence, with stuff bits. It is built before transmission, and
+ * taken bit by bit in reception (docs/FRAMES.md). */
 
 #ifndef CODING_H
 #define CODING_H
 
 #include "frame.h"
 
-enum { STUFFED_ROOM = 160 };    /* more than the 147 levels of the longest stuffed part */
+enum { STUFFED_SIZE = 160 };    /* more than the 147 levels of the longest stuffed part */
 
 struct transmission {
-    enum level levels[STUFFED_ROOM];
-    bool stuff[STUFFED_ROOM];   /* whether the level is a stuff bit */
+    enum level levels[STUFFED_SIZE];
+    bool stuff[STUFFED_SIZE];   /* whether the level is a stuff bit */
     unsigned length;
-    unsigned rtr;               /* where RTR stands, stuff bits counted */
-    unsigned place;             /* the next level to be sent */
-    unsigned run;               /* levels that are equal to the last one, itself among them */
+    unsigned rtr;               /* the index of RTR, stuff bits included */
+    unsigned place;             /* the index of the next level to send */
+    unsigned run;               /* the number of equal levels at the end */
     uint16_t crc;
 };
 
 void make_transmission(struct transmission *out, const struct frame *frame);
 
 struct reception {
-    struct frame frame;         /* as far as it has been heard */
-    unsigned levels;            /* how many were heard, stuff bits left out */
+    struct frame frame;         /* as far as it has been received */
+    unsigned levels;            /* the number received, without stuff bits */
     enum level last;
     unsigned run;
     uint16_t crc;               /* of the head so far */
-    uint16_t sequence;          /* the check sequence so far */
+    uint16_t sequence;          /* the CRC sequence received so far */
 };
 
-/* The start of frame has been heard. */
+/* Begins a reception: the start of frame has been received. */
 void begin_reception(struct reception *in);
 
-/* Takes a level. False where it is a stuff bit that repeats the five levels before it. */
+/* Takes a level. Returns false on a stuff error: a stuff bit that repeats the five levels before it. */
 bool receive(struct reception *in, enum level level);
 
-/* Whether a stuff bit is due. */
+/* Whether the next level is a stuff bit. */
 bool is_stuff_place(const struct reception *in);
 
-/* Whether the check sequence has not begun yet. */
+/* Whether the next level belongs to the head: the CRC sequence has not begun. */
 bool is_in_head(const struct reception *in);
 
-/* Whether the stuffed part is complete, with a stuff bit behind the check sequence if one is due. */
+/* Whether the stuffed part is complete, including a stuff bit after the CRC sequence, if there is one. */
 bool has_ended(const struct reception *in);
 
 #endif

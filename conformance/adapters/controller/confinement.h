@@ -1,4 +1,4 @@
-/* Fault confinement: the two error counters, what changes them, and the state they make (docs/ACCESS.md). */
+/* Fault confinement: the two error counters, what changes them, and the states that follow (docs/ACCESS.md). */
 
 #ifndef CONFINEMENT_H
 #define CONFINEMENT_H
@@ -13,16 +13,16 @@ struct counters {
 bool is_passive(const struct counters *counters);
 bool is_off(const struct counters *counters);
 
-/* A sender's error, an unseen level of its flag, or eight dominant levels behind one. */
+/* A transmitter's error, a bit error in its flag, or eight dominant bits after a flag: TEC rises by 8. */
 void count_sender(struct counters *counters);
 
-/* A receiver's error, by 1 or by 8. REC stops at 255. */
+/* A receiver's error: REC rises by 1 or by 8, up to 255. */
 void count_receiver(struct counters *counters, unsigned by);
 
 void count_sent(struct counters *counters);
 void count_received(struct counters *counters);
 
-/* Behind bus off both are 0. */
+/* After recovery from bus-off both are 0. */
 void clear_counters(struct counters *counters);
 
 #endif

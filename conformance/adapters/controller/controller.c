@@ -1,4 +1,4 @@
-/* Medium access: what the controller drives, and what a level of the bus makes of it, phase by phase. The rules are
+/* Medium access control: what the controller drives in each phase, and what a level on the bus changes. The rules are
  * those of docs/ACCESS.md. */
 
 #include "controller.h"
@@ -8,7 +8,7 @@
 enum {
     JOINING_LEVELS = 11,
     FLAG_LEVELS = 6,
-    RUN_LEVELS = 8,             /* of dominant levels behind a flag, each of which counts */
+    RUN_LEVELS = 8,             /* after a flag, every eighth dominant level counts */
     MOST_OWN_OVERLOADS = 2,
     OCCURRENCE_LEVELS = 11,
     OCCURRENCES = 128
@@ -30,7 +30,7 @@ static void count_eight(struct controller *can)
         count_receiver(&can->counters, 8);
 }
 
-/* Begins an error flag; its kind is decided before anything is counted. */
+/* Begins an error flag. Whether it is passive depends on the counters before the error is counted. */
 static void begin_error_flag(struct controller *can, bool unacknowledged)
 {
     if (is_passive(&can->counters)) {
@@ -52,7 +52,7 @@ static enum event error(struct controller *can, enum event kind)
     return kind;
 }
 
-/* A dominant level where the form is fixed and recessive. */
+/* A dominant level in a field of fixed form, which is recessive. */
 static enum event form_error(struct controller *can)
 {
     return error(can, can->is_sender ? ERROR_BIT : ERROR_FORM);
@@ -64,7 +64,7 @@ static enum event begin_overload_flag(struct controller *can)
     return OVERLOAD;
 }
 
-/* A level of an own active flag or overload flag: dominant, or an error in the flag. */
+/* A bit of an own active error flag or overload flag: dominant, or else a bit error. */
 static enum event take_flag(struct controller *can, enum level seen)
 {
     if (seen == RECESSIVE) {
@@ -75,7 +75,7 @@ static enum event take_flag(struct controller *can, enum level seen)
     if (++can->place == FLAG_LEVELS) {
         can->first_counts = can->phase == ACTIVE_FLAG && !can->is_sender;
         can->dominant = 0;
-        enter(can, BEHIND_FLAG);
+        enter(can, AFTER_FLAG);
     }
     return NOTHING;
 }
@@ -93,12 +93,12 @@ static enum event take_passive_flag(struct controller *can, enum level seen)
     if (can->flag_run == FLAG_LEVELS) {
         can->first_counts = !can->is_sender;
         can->dominant = 0;
-        enter(can, BEHIND_FLAG);
+        enter(can, AFTER_FLAG);
     }
     return NOTHING;
 }
 
-static enum event take_behind_flag(struct controller *can, enum level seen)
+static enum event take_after_flag(struct controller *can, enum level seen)
 {
     if (seen == RECESSIVE) {
         enter(can, DELIMITER);
@@ -115,12 +115,12 @@ static enum event take_behind_flag(struct controller *can, enum level seen)
 
 /* Between frames */
 
-/* Behind the end of a frame or a delimiter: intermission, or an own overload frame in its place. */
+/* After the end of a frame or a delimiter: intermission, or a requested overload frame instead. */
 static enum event enter_intermission(struct controller *can)
 {
-    if (!can->is_sender && can->wishes > 0 && can->wished < MOST_OWN_OVERLOADS) {
-        can->wishes--;
-        can->wished++;
+    if (!can->is_sender && can->overloads_requested > 0 && can->overloads_sent < MOST_OWN_OVERLOADS) {
+        can->overloads_requested--;
+        can->overloads_sent++;
         return begin_overload_flag(can);
     }
     enter(can, INTERMISSION);
@@ -133,10 +133,10 @@ static void rest(struct controller *can)
     enter(can, IDLE);
 }
 
-/* A start of frame is on the bus: the first level of a frame, its own if one may be sent. */
+/* A start of frame is on the bus. It is the controller's own if a frame is pending and may be sent. */
 static void begin_frame(struct controller *can, bool may_send)
 {
-    can->wished = 0;
+    can->overloads_sent = 0;
     can->is_sender = may_send && can->queue.length > 0;
     if (can->is_sender) {
         can->sending = *first_frame(&can->queue);
@@ -163,7 +163,7 @@ static enum event take_idle(struct controller *can, enum level seen)
     }
     if (can->queue.length == 0)
         return NOTHING;
-    /* its own start of frame is not on the bus */
+    /* bit error: its own start of frame is not on the bus */
     can->sending = *first_frame(&can->queue);
     can->is_sender = true;
     return error(can, ERROR_BIT);
@@ -236,7 +236,7 @@ static enum event take_received_level(struct controller *can, enum level seen)
     return NOTHING;
 }
 
-/* A level at this place of the own frame is another on the bus. */
+/* The bus has another level than the own frame at this place. */
 static enum event take_overridden(struct controller *can, unsigned place, enum level seen)
 {
     const struct transmission *out = &can->out;
@@ -307,7 +307,7 @@ static enum event take_sender_end(struct controller *can, enum level seen)
         return NOTHING;
     count_sent(&can->counters);
     drop_frame(&can->queue, &can->sending);
-    can->told = can->sending;
+    can->event_frame = can->sending;
     enter_intermission(can);
     return SENT;
 }
@@ -322,16 +322,16 @@ static enum event take_receiver_end(struct controller *can, enum level seen)
         return enter_intermission(can);
     if (++can->place < 6)
         return NOTHING;
-    can->told = can->in.frame;
+    can->event_frame = can->in.frame;
     return RECEIVED;
 }
 
 /* A bit time */
 
-void can_begin(struct controller *can, bool joins)
+void can_begin(struct controller *can, bool joining)
 {
     memset(can, 0, sizeof *can);
-    enter(can, joins ? JOINING : IDLE);
+    enter(can, joining ? JOINING : IDLE);
 }
 
 bool can_offer(struct controller *can, const struct frame *frame)
@@ -341,7 +341,7 @@ bool can_offer(struct controller *can, const struct frame *frame)
 
 void can_hold(struct controller *can, unsigned overloads)
 {
-    can->wishes = overloads;
+    can->overloads_requested = overloads;
 }
 
 enum level can_drives(const struct controller *can)
@@ -383,8 +383,8 @@ static enum event take_level(struct controller *can, enum level seen)
         return take_flag(can, seen);
     case PASSIVE_FLAG:
         return take_passive_flag(can, seen);
-    case BEHIND_FLAG:
-        return take_behind_flag(can, seen);
+    case AFTER_FLAG:
+        return take_after_flag(can, seen);
     case DELIMITER:
         return take_delimiter(can, seen);
     case INTERMISSION:

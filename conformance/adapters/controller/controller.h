@@ -1,4 +1,4 @@
-/* A controller for classical CAN at whole bit times: medium access, with its queue and its counters. */
+/* A controller for classical CAN, bit time by bit time: medium access control, with transmit queue and counters. */
 
 #ifndef CONTROLLER_H
 #define CONTROLLER_H
@@ -19,7 +19,7 @@ enum phase {
     ACTIVE_FLAG,
     PASSIVE_FLAG,
     OVERLOAD_FLAG,
-    BEHIND_FLAG,
+    AFTER_FLAG,
     DELIMITER,
     INTERMISSION,
     SUSPEND,
@@ -43,38 +43,38 @@ enum event {
 
 struct controller {
     enum phase phase;
-    unsigned place;             /* levels of the phase so far; while joining or off, recessive ones in a row */
-    bool is_sender;             /* of the frame on the bus, or of the last one until the next begins or idle */
+    unsigned place;             /* levels of the phase so far; JOINING, BUS_OFF: recessive ones in a row */
+    bool is_sender;             /* transmitter of the frame on the bus; after it, until the next one or IDLE */
     struct frame sending;
     struct transmission out;
     struct reception in;
-    bool agrees;                /* the check sequence heard is that of the head */
+    bool agrees;                /* the CRC sequence received is that of the head */
     struct counters counters;
-    enum level flag_last;       /* of a passive flag: its last level */
-    unsigned flag_run;          /* and how many equal it */
-    bool unacknowledged;        /* and whether a dominant level in it counts */
-    bool first_counts;          /* behind a flag: whether a first dominant level counts */
-    unsigned dominant;          /* and how many came in a row */
-    unsigned occurrences;       /* of bus off: rows of eleven */
-    unsigned wishes;            /* own overload frames asked for */
-    unsigned wished;            /* and made since the last start of frame */
+    enum level flag_last;       /* PASSIVE_FLAG: the last level */
+    unsigned flag_run;          /* PASSIVE_FLAG: the number of equal levels at the end */
+    bool unacknowledged;        /* PASSIVE_FLAG: whether a dominant level counts */
+    bool first_counts;          /* AFTER_FLAG: whether a first dominant level counts */
+    unsigned dominant;          /* AFTER_FLAG: the number of dominant levels */
+    unsigned occurrences;       /* BUS_OFF: sequences of eleven recessive levels */
+    unsigned overloads_requested;
+    unsigned overloads_sent;    /* on request, since the last start of frame */
     struct queue queue;
-    struct frame told;          /* the frame of SENT or RECEIVED */
+    struct frame event_frame;   /* the frame of the event SENT or RECEIVED */
 };
 
-/* A new controller. It is idle, or joins the bus behind eleven recessive levels. */
-void can_begin(struct controller *can, bool joins);
+/* A new controller. It is idle, or waits for eleven recessive levels before it takes part (bus integration). */
+void can_begin(struct controller *can, bool joining);
 
-/* A frame to be sent, from the next bit time on. False where the queue is full. */
+/* Queues a frame for transmission, from the next bit time on. Returns false if the queue is full. */
 bool can_offer(struct controller *can, const struct frame *frame);
 
-/* Asks for 0 to 2 own overload frames, in place of those asked for before. */
+/* Requests 0 to 2 overload frames. This replaces an earlier request. */
 void can_hold(struct controller *can, unsigned overloads);
 
-/* The level that it drives in this bit time. */
+/* The level that the controller drives in this bit time. */
 enum level can_drives(const struct controller *can);
 
-/* The level of the bus in this bit time, behind can_drives. */
+/* Samples the level of the bus in this bit time, after can_drives. Returns the event. */
 enum event can_sample(struct controller *can, enum level seen);
 
 #endif

@@ -32,8 +32,8 @@ uint32_t identifier_extension(const struct frame *frame)
     return frame->identifier & 0x3ffff;
 }
 
-/* From the highest bit on: eleven levels of the identifier, RTR or SRR, IDE, and in an extended frame eighteen
- * levels and RTR. A standard frame has nothing there, which no comparison gets to. */
+/* From the highest bit on: eleven levels of the identifier, RTR or SRR, IDE, and in an extended frame eighteen levels
+ * and RTR. In a standard frame the latter are 0: IDE has decided any comparison with an extended one. */
 uint32_t arbitration_field(const struct frame *frame)
 {
     uint32_t rtr = frame->remote ? 1 : 0;

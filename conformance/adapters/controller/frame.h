@@ -1,4 +1,4 @@
-/* Levels and frames, and where the parts of a frame stand on the wire (docs/FRAMES.md, Layout). */
+/* Levels, frames, and the places of the parts of a frame (docs/FRAMES.md, Layout). */
 
 #ifndef FRAME_H
 #define FRAME_H
@@ -26,30 +26,30 @@ enum {
 };
 
 enum {
-    BASE_LEVELS = 11,        /* of the identifier, up to SRR in an extended frame */
+    BASE_LEVELS = 11,        /* of the identifier, before RTR or SRR */
     EXTENSION_LEVELS = 18,
     CONTROL_LEVELS = 6,      /* IDE or r1, r0 and the DLC */
     DLC_LEVELS = 4,
     CRC_LEVELS = 15
 };
 
-/* How many bytes the frame has: at most 8, and none in a remote frame. */
+/* The number of data bytes: at most 8, and none in a remote frame. */
 unsigned data_bytes(const struct frame *frame);
 
 /* The place of RTR. */
 unsigned rtr_place(bool extended);
 
-/* The first place behind the DLC. */
+/* The first place after the DLC. */
 unsigned data_place(const struct frame *frame);
 
-/* How many levels the frame has before its check sequence. */
+/* The number of levels before the CRC sequence. */
 unsigned head_levels(const struct frame *frame);
 
-/* The identifier's eleven levels before SRR or RTR, and the eighteen behind IDE. */
+/* The eleven levels of the identifier before SRR or RTR, and the eighteen after IDE. */
 uint32_t base_identifier(const struct frame *frame);
 uint32_t identifier_extension(const struct frame *frame);
 
-/* The arbitration field as a number: the lesser goes first. */
+/* The arbitration field as a number: the lower one has the higher priority. */
 uint32_t arbitration_field(const struct frame *frame);
 
 #endif

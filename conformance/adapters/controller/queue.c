@@ -4,7 +4,7 @@
 
 bool put_frame(struct queue *queue, const struct frame *frame)
 {
-    if (queue->length == QUEUE_ROOM)
+    if (queue->length == QUEUE_SIZE)
         return false;
     queue->frames[queue->length++] = *frame;
     return true;

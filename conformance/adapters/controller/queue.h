@@ -1,24 +1,24 @@
-/* The frames that wait to be sent. */
+/* The pending frames. */
 
 #ifndef QUEUE_H
 #define QUEUE_H
 
 #include "frame.h"
 
-enum { QUEUE_ROOM = 256 };
+enum { QUEUE_SIZE = 256 };
 
 struct queue {
-    struct frame frames[QUEUE_ROOM];    /* in the order of the offers */
+    struct frame frames[QUEUE_SIZE];    /* in the order in which they were offered */
     unsigned length;
 };
 
-/* False where the queue is full. */
+/* Returns false if the queue is full. */
 bool put_frame(struct queue *queue, const struct frame *frame);
 
-/* The frame that goes first in arbitration, of equal ones that offered first. The queue is not empty. */
+/* The frame of highest priority; of equal arbitration fields, the one offered first. The queue must not be empty. */
 const struct frame *first_frame(const struct queue *queue);
 
-/* Takes the first frame with this one's arbitration field out. */
+/* Removes the first frame with the arbitration field of this one. */
 void drop_frame(struct queue *queue, const struct frame *sent);
 
 #endif

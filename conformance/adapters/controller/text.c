@@ -7,7 +7,7 @@ enum { STANDARD_DIGITS = 3, EXTENDED_DIGITS = 8 };
 static const uint32_t highest_standard = 0x7ff;
 static const uint32_t highest_extended = 0x1fffffff;
 
-/* Takes this character from the front of the text. */
+/* Takes this character from the front of the text, if it is there. */
 static bool take(const char **text, char wanted)
 {
     if (**text != wanted)
@@ -16,7 +16,7 @@ static bool take(const char **text, char wanted)
     return true;
 }
 
-/* Takes one of the two characters; which of them tells `is_second`. */
+/* Takes one of the two characters. `is_second` says which. */
 static bool take_either(const char **text, char first, char second, bool *is_second)
 {
     *is_second = **text == second;

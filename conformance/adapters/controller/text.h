@@ -7,7 +7,7 @@
 
 #include "frame.h"
 
-/* False where the text is no frame. */
+/* Reads a frame. Returns false if the text is none. */
 bool read_frame(const char *text, struct frame *frame);
 
 void write_frame(FILE *out, const struct frame *frame);

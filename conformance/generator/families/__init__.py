@@ -1,4 +1,4 @@
-"""The families, each entered in the book as its module is imported, in the order of the README."""
+"""The families, in the order of the README. Each is registered when its module is imported."""
 
 import importlib
 

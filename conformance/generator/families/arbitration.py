@@ -1,4 +1,4 @@
-"""Arbitration: lost at each place, won, equal, and stuff bits within it."""
+"""Arbitration: lost at each bit, won, undecided, and stuff bits within it."""
 
 from __future__ import annotations
 
@@ -20,28 +20,28 @@ def _lose(scene: Scene, own: str, tester: str) -> None:
     scene.rest(3)
 
 
-@family("arbitration-lost-standard", "the controller sends all recessive, the tester the same with one bit dominant")
+@family("arbitration-lost-standard", "the controller sends all bits recessive, the tester one of them dominant")
 def lost_standard(book: Book) -> None:
     bits = book.rows((10, 6, 3, 0), (9, 8, 7, 5, 4, 2, 1))
     winners = [(f"identifier-{bit}", f"S {0x7FF ^ 1 << bit:03x} R 0") for bit in bits]
     winners.append(("rtr", "S 7ff D 0"))
     for suffix, winner in winners:
-        with book.case(suffix, f"lost at {suffix}: {winner} is acknowledged, its own frame follows") as scene:
+        with book.case(suffix, f"lost at {suffix}: {winner} is acknowledged, the own frame follows") as scene:
             _lose(scene, STANDARD, winner)
 
 
-@family("arbitration-lost-extended", "as for standard frames; at SRR and IDE too")
+@family("arbitration-lost-extended", "the same with extended frames, also at SRR and IDE")
 def lost_extended(book: Book) -> None:
     standard = (28, 23, 18, 17, 9, 0)
     bits = book.rows(standard, [bit for bit in range(28, -1, -1) if bit not in standard])
     winners = [(f"identifier-{bit}", f"E {0x1FFFFFFF ^ 1 << bit:08x} R 0") for bit in bits]
     winners += [("srr", "S 7ff D 0"), ("ide", "S 7ff R 0"), ("rtr", "E 1fffffff D 0")]
     for suffix, winner in winners:
-        with book.case(suffix, f"lost at {suffix}: {winner} is acknowledged, its own frame follows") as scene:
+        with book.case(suffix, f"lost at {suffix}: {winner} is acknowledged, the own frame follows") as scene:
             _lose(scene, EXTENDED, winner)
 
 
-@family("arbitration-won", "the tester's frame up to the level at which it loses, then the controller goes on")
+@family("arbitration-won", "the tester sends until it loses arbitration, then the controller goes on")
 def won(book: Book) -> None:
     cases = [
         ("identifier", "S 123 D 1 c3", "S 127 D 1 c3"),
@@ -55,57 +55,57 @@ def won(book: Book) -> None:
         wire = Frame.parse(own).wire()
         levels = Frame.parse(tester).wire().levels
         loses = next(place for place, (a, b) in enumerate(zip(levels, wire.levels)) if a != b)
-        with book.case(suffix, f"{tester} loses against {own} at {suffix}") as scene:
+        with book.case(suffix, f"{tester} loses arbitration against {own} at {suffix}") as scene:
             scene.anchor(own)
-            scene.play(levels[: loses + 1], f"sends {tester}, and loses")
+            scene.play(levels[: loses + 1], f"sends {tester} and loses")
             scene.play("1" * (wire.place("ack") - loses - 1) + "0" + "1" * 8, "listens")
             scene.rest(6)
 
 
-@family("arbitration-equal", "the tester sends the same frame; one with other data")
+@family("arbitration-equal", "the tester sends the same frame, or one with different data")
 def equal(book: Book) -> None:
     own = "S 123 D 2 c3a5"
-    with book.case("same", "the tester sends the same frame: nobody loses") as scene:
+    with book.case("same", "the tester sends the same frame: nobody loses arbitration") as scene:
         scene.anchor(own)
-        scene.play(Frame.parse(own).wire().acknowledged(), f"sends {own} too, and acknowledges")
+        scene.play(Frame.parse(own).wire().acknowledged(), f"sends {own}, too, and acknowledges")
         scene.rest(6)
-    with book.case("other-data", "behind arbitration an overridden level is an error") as scene:
+    with book.case("other-data", "after arbitration an overridden bit is a bit error") as scene:
         scene.anchor(own)
         other = Frame.parse("S 123 D 2 83a5").wire()
         levels = Frame.parse(own).wire().levels
         differ = next(place for place, (a, b) in enumerate(zip(other.levels, levels)) if a != b)
-        scene.play(other.levels[: differ + 1], "sends S 123 D 2 83a5 up to the level that differs")
+        scene.play(other.levels[: differ + 1], "sends S 123 D 2 83a5, up to and including the bit that differs")
         scene.recover()
         scene.sent(own)
         scene.rest(3)
 
 
 def stuffed_places() -> list[tuple[str, str, int]]:
-    """Frames with recessive stuff bits up to RTR, and right behind it: a name, the frame, the stuff bit's number."""
+    """Frames with a recessive stuff bit before RTR, right after it or later: name, frame, number of the stuff bit."""
     return [
         ("standard-first", "S 000 D 0", 0),
         ("standard-second", "S 000 D 0", 1),
         ("standard-before-rtr", "S 020 D 0", 1),
-        ("standard-behind-rtr", "S 010 D 0", 1),
-        ("standard-behind", "S 000 D 0", 2),
+        ("standard-after-rtr", "S 010 D 0", 1),
+        ("standard-after-arbitration", "S 000 D 0", 2),
         ("extended-first", "E 00000000 D 0", 0),
         ("extended-second", "E 00000000 D 0", 1),
         ("extension-first", "E 15540000 D 0", 0),
         ("extension-second", "E 15540000 D 0", 1),
         ("extended-before-rtr", "E 15555520 D 0", 0),
-        ("extended-behind-rtr", "E 15555510 D 0", 0),
-        ("extended-behind", "E 1555555f R 0", 0),
+        ("extended-after-rtr", "E 15555510 D 0", 0),
+        ("extended-after-arbitration", "E 1555555f R 0", 0),
     ]
 
 
 def _with_run(bits: int, first: int) -> str:
-    """As many bits, with five dominant ones from a place on, a recessive one before them, and no other such run."""
+    """This number of bits: five dominant ones from a place on, a recessive one before them, no other run of five."""
     before = ("01" * first)[2 * first - first :]
     return (before + "00000" + "10" * bits)[:bits]
 
 
 def more_stuffed_places() -> list[tuple[str, str, int]]:
-    """Frames with one recessive stuff bit up to RTR, for each place of the identifier at which it may stand."""
+    """Frames with one recessive stuff bit before RTR, one frame for each place in the identifier that it can have."""
     more = [(f"standard-at-{at + 5}", f"S {int(_with_run(11, at), 2):03x} D 0", 0) for at in range(1, 6)]
     for at in range(1, 7):
         identifier = int(_with_run(11, at) + "01" * 9, 2)
@@ -116,17 +116,17 @@ def more_stuffed_places() -> list[tuple[str, str, int]]:
     return more
 
 
-@family("arbitration-stuff", "each recessive stuff bit up to RTR overridden, and the next behind; a probe of TEC")
+@family("arbitration-stuff", "a recessive stuff bit before RTR, directly after it or later overridden; probe of TEC")
 def stuff(book: Book) -> None:
     for suffix, frame, number in book.rows(stuffed_places(), more_stuffed_places()):
         wire = Frame.parse(frame).wire()
         recessive = [place for place in wire.stuff if wire.levels[place] == "1"]
-        with book.case(suffix, f"stuff bit {number + 1} of {frame} overridden", ["stuff-exception"]) as scene:
+        with book.case(suffix, f"recessive stuff bit {number + 1} of {frame} overridden", ["stuff-exception"]) as scene:
             scene.anchor(frame)
             scene.sending(frame, recessive[number])
             scene.play("0", "the stuff bit dominant")
-            # a run behind the flag tells whether the controller is still the sender
-            scene.behind_flag(8 if suffix.endswith("second") else 0)
+            # dominant bits after the flag show whether the controller is still the transmitter
+            scene.after_flag(8 if suffix.endswith("second") else 0)
             scene.sent(frame)
             probe_tec(scene)
     if book.is_long:
@@ -136,14 +136,14 @@ def stuff(book: Book) -> None:
 def _stuff_bit_while_passive(book: Book) -> None:
     frame = "S 020 D 0"
     wire = Frame.parse(frame).wire()
-    purpose = "a stuff bit overridden while passive: dominant levels in the flag count nothing either"
+    purpose = "a stuff bit is overridden while error passive: dominant bits in the flag do not count either"
     with book.case("standard-passive", purpose, ["stuff-exception"]) as scene:
         scene.anchor(frame)
         raise_tec(scene, 128, frame)
         scene.wait()
         scene.sending(frame, next(place for place in wire.stuff if wire.levels[place] == "1"))
         scene.play("0", "the stuff bit dominant")
-        scene.play("0111111", "within the passive flag, the first level dominant")
-        scene.wait("delimiter, intermission, suspend")
+        scene.play("0111111", "within the passive flag, the first bit dominant")
+        scene.wait("delimiter, intermission, suspend transmission")
         scene.sent(frame)
         probe_tec(scene)

@@ -67,7 +67,7 @@ MORE_STUFFED = [
     ("extended-dominant-runs", "E 00000000 D 8 0000000000000000"),
     ("extended-recessive-runs", "E 1fffffff D 8 ffffffffffffffff"),
 ]
-BEHIND_CRC = [
+AFTER_CRC = [
     ("recessive", ends_stuffed("S", 2, "1")),
     ("dominant", ends_stuffed("S", 2, "0")),
     ("extended-recessive", ends_stuffed("E", 2, "1")),
@@ -93,7 +93,7 @@ def rx_dlc(book: Book) -> None:
     _receive_whole(book, book.rows(DLCS, MORE_DLCS), "DLC")
 
 
-@family("rx-reserved", "SRR, r1, r0 at other levels; the check sequence is that of the levels sent")
+@family("rx-reserved", "SRR, r1, r0 at the other level; the CRC sequence is that of the bits sent")
 def rx_reserved(book: Book) -> None:
     standard, extended = "S 123 D 1 c3", "E 01234567 D 1 c3"
     cases = [
@@ -116,33 +116,33 @@ def rx_reserved(book: Book) -> None:
             scene.rest(5)
 
 
-@family("rx-stuff", "frames of long runs, and of runs that begin with stuff bits")
+@family("rx-stuff", "frames with long runs of equal bits, and with runs that begin with stuff bits")
 def rx_stuff(book: Book) -> None:
     _receive_whole(book, book.rows(STUFFED, MORE_STUFFED), "stuff bits")
 
 
-@family("rx-stuff-behind-crc", "check sequences that end with five equal levels")
-def rx_stuff_behind_crc(book: Book) -> None:
-    _receive_whole(book, BEHIND_CRC, "a stuff bit behind the check sequence")
+@family("rx-stuff-after-crc", "CRC sequences that end with five equal bits")
+def rx_stuff_after_crc(book: Book) -> None:
+    _receive_whole(book, AFTER_CRC, "a stuff bit after the CRC sequence")
 
 
-@family("rx-spacing", "frames 3 and 2 recessive levels apart, and 200")
+@family("rx-spacing", "frames 2, 3 and 200 recessive bits apart")
 def rx_spacing(book: Book) -> None:
     for gap in book.rows((3, 2, 200), (20,)):
-        with book.case(f"gap-{gap}", f"a frame begins {gap} levels behind another: both are acknowledged") as scene:
+        with book.case(f"gap-{gap}", f"a frame begins {gap} bits after another: both are acknowledged") as scene:
             scene.receive("S 123 D 1 c3")
             scene.rest(gap, "between the frames")
             scene.receive("S 124 D 1 3c")
             scene.rest(5)
 
 
-@family("rx-ack", "others acknowledge too, or nobody; the controller's own frame")
+@family("rx-ack", "other nodes acknowledge, or nobody; the controller's own frame")
 def rx_ack(book: Book) -> None:
-    with book.case("others-too", "others acknowledge the received frame too") as scene:
+    with book.case("others-too", "other nodes acknowledge the received frame, too") as scene:
         wire = Frame.parse("S 123 D 1 c3").wire()
         scene.play(wire.acknowledged(), "sends S 123 D 1 c3 and acknowledges it")
         scene.rest(5)
-    with book.case("own", "its own frame is not acknowledged by itself") as scene:
+    with book.case("own", "a transmitter does not acknowledge its own frame") as scene:
         scene.anchor("S 123 D 1 c3")
         scene.sent("S 123 D 1 c3")
         scene.rest(5)
@@ -168,9 +168,9 @@ STUFF_ERRORS = [
     ("crc-dominant", stuffed_in("S", 2, "crc", "1"), "crc", "1"),
     ("crc-recessive", stuffed_in("S", 2, "crc", "0"), "crc", "0"),
     ("extended-crc", stuffed_in("E", 3, "crc", "1"), "crc", "1"),
-    ("behind-crc-dominant", BEHIND_CRC[0][1], "crc", "1"),
-    ("behind-crc-recessive", BEHIND_CRC[1][1], "crc", "0"),
-    ("extended-behind-crc", BEHIND_CRC[3][1], "crc", "0"),
+    ("after-crc-dominant", AFTER_CRC[0][1], "crc", "1"),
+    ("after-crc-recessive", AFTER_CRC[1][1], "crc", "0"),
+    ("extended-after-crc", AFTER_CRC[3][1], "crc", "0"),
 ]
 
 
@@ -190,27 +190,27 @@ MORE_STUFF_ERRORS = [
     ("extended-crc-recessive", stuffed_in("E", 3, "crc", "0"), "crc", "0"),
     ("data-last-dominant", "S 555 D 8 0000000000000000", "data", "1"),
     ("data-last-recessive", "S 555 D 8 ffffffffffffffff", "data", "0"),
-    ("extended-behind-crc-dominant", BEHIND_CRC[2][1], "crc", "1"),
+    ("extended-after-crc-dominant", AFTER_CRC[2][1], "crc", "1"),
 ]
-# which of the part's stuff bits is meant, where it is not the first
+# which of the part's stuff bits is meant, if not the first
 STUFF_NUMBERS = {"identifier-second": 1, "data-last-dominant": -1, "data-last-recessive": -1}
 
 
-def break_stuff_bit(scene: Scene, frame: str, part: str, level: str, behind: bool = False, number: int = 0) -> None:
-    """The tester's frame up to a stuff bit, there the wrong level."""
+def break_stuff_bit(scene: Scene, frame: str, part: str, level: str, after_crc: bool = False, number: int = 0) -> None:
+    """The tester's frame before a stuff bit, then that bit at the wrong level."""
     wire = Frame.parse(frame).wire()
-    place = wire.stuff[-1] if behind else stuff_place(wire, part, level, number)
+    place = wire.stuff[-1] if after_crc else stuff_place(wire, part, level, number)
     if place < 0:
         raise ValueError(f"{scene.case.name}: no such stuff bit")
-    scene.receive(frame, upto=place)
+    scene.receive(frame, before=place)
     scene.play(opposite(level), "the stuff bit at the wrong level")
 
 
-@family("rx-stuff-error", "the tester's frame up to a stuff bit, there the wrong level")
+@family("rx-stuff-error", "the tester's frame before a stuff bit, then that bit at the wrong level")
 def rx_stuff_error(book: Book) -> None:
     for suffix, frame, part, level in book.rows(STUFF_ERRORS, MORE_STUFF_ERRORS):
         with book.case(suffix, f"a wrong stuff bit in {frame} starts an error flag") as scene:
-            break_stuff_bit(scene, frame, part, level, "behind" in suffix, STUFF_NUMBERS.get(suffix, 0))
+            break_stuff_bit(scene, frame, part, level, "after-crc" in suffix, STUFF_NUMBERS.get(suffix, 0))
             scene.recover()
             scene.rest(3)
 
@@ -240,19 +240,19 @@ MORE_CRC_ERRORS = [
 ]
 
 
-@family("rx-crc-error", "one bit turned, stuffed anew; acknowledged by others")
+@family("rx-crc-error", "one bit inverted before stuffing; with and without an acknowledgement by others")
 def rx_crc_error(book: Book) -> None:
-    for suffix, frame, turned, others in book.rows(CRC_ERRORS, MORE_CRC_ERRORS):
-        purpose = f"{turned} turned in {frame}: not acknowledged, an error flag behind the ACK delimiter"
+    for suffix, frame, inverted, others in book.rows(CRC_ERRORS, MORE_CRC_ERRORS):
+        purpose = f"{inverted} inverted in {frame}: not acknowledged, an error flag after the ACK delimiter"
         with book.case(suffix, purpose) as scene:
-            wire = Frame.parse(frame).wire(turned)
+            wire = Frame.parse(frame).wire(inverted)
             levels = wire.acknowledged() if others else wire.levels
-            scene.play(levels[: wire.place("eof 1")], f"sends {frame}, {turned} turned")
+            scene.play(levels[: wire.place("eof 1")], f"sends {frame} with {inverted} inverted")
             scene.recover()
             scene.rest(3)
 
 
-@family("rx-form-error", "delimiters and end of frame 1 to 6 dominant; the delimiters with a wrong check sequence")
+@family("rx-form-error", "a delimiter, also after a wrong CRC sequence, or bit 1 to 6 of the end of frame dominant")
 def rx_form_error(book: Book) -> None:
     standard, extended = "S 123 D 2 c3a5", "E 01234567 D 2 c3a5"
     parts = ("crc-delimiter", "ack-delimiter", "eof 1", "eof 3", "eof 5", "eof 6")
@@ -260,12 +260,13 @@ def rx_form_error(book: Book) -> None:
     places += [(standard, part, "crc-3") for part in parts[:2]]
     more = [(standard, part, "") for part in ("eof 2", "eof 4")]
     more += [(extended, part, "") for part in ("crc-delimiter", "ack-delimiter", "eof 1", "eof 6")]
-    for frame, part, turned in book.rows(places, more):
-        suffix = ("extended-" if frame == extended else "") + part.replace(" ", "-") + ("-wrong-crc" if turned else "")
-        wrong = ", the check sequence wrong" if turned else ""
-        with book.case(suffix, f"{part} dominant{wrong}: an error flag and a count of 1") as scene:
-            wire = Frame.parse(frame).wire(turned)
-            scene.receive(frame, upto=wire.place(part), wire=wire)
+    for frame, part, inverted in book.rows(places, more):
+        suffix = ("extended-" if frame == extended else "") + part.replace(" ", "-")
+        suffix += "-wrong-crc" if inverted else ""
+        wrong = ", CRC sequence wrong" if inverted else ""
+        with book.case(suffix, f"{part} dominant{wrong}: an error flag, and REC rises by 1") as scene:
+            wire = Frame.parse(frame).wire(inverted)
+            scene.receive(frame, before=wire.place(part), wire=wire)
             scene.play("0", f"{part} dominant")
             scene.recover()
             if part.startswith("eof"):
@@ -276,8 +277,8 @@ def rx_form_error(book: Book) -> None:
 @family("rx-ack-unseen", "the ACK slot forced")
 def rx_ack_unseen(book: Book) -> None:
     for suffix, frame in (("standard", "S 123 D 2 c3a5"), ("extended", "E 01234567 D 2 c3a5")):
-        with book.case(suffix, "its acknowledgement is not on the bus: an error flag") as scene:
-            scene.receive(frame, upto=Frame.parse(frame).wire().place("ack"))
+        with book.case(suffix, "its acknowledgement does not appear on the bus: an error flag") as scene:
+            scene.receive(frame, before=Frame.parse(frame).wire().place("ack"))
             scene.play("f", "the ACK slot forced")
             scene.recover()
             scene.rest(3)

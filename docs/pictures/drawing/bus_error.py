@@ -16,11 +16,12 @@ EXPECTED = "docs/pictures/recorded/two_nodes.expected"
 SHOWN, CELL, LEFT, HIGH = 59, 15, 92, 28
 # the upper edge of each wave
 NODES, BUS = (96, 178), 262
-ABOUT = """Three waves over bit times 0 to 58. Node 0 transmits the frame S 000 D 0. In bit time 16, at the reserved bit, \
-the bus level is inverted to recessive. Node 0 has a bit error there and drives six dominant levels from 17 on. Node 1 \
-has a stuff error in bit time 22, the sixth dominant level in a row, and drives six dominant levels from 23 on. From 29 \
-on the bus has eight recessive levels of error delimiter and three of intermission. Node 0 sends the frame again from \
-bit time 40 on."""
+ABOUT = """\
+Three waves over bit times 0 to 58. Node 0 transmits the frame S 000 D 0. In bit time 16, at the \
+reserved bit, the bus level is inverted to recessive. Node 0 has a bit error there and drives six \
+dominant levels from 17 on. Node 1 has a stuff error in bit time 22, the sixth dominant level in a row, \
+and drives six dominant levels from 23 on. From 29 on the bus has eight recessive levels of error \
+delimiter and three of intermission. Node 0 sends the frame again from bit time 40 on."""
 
 
 class Times(NamedTuple):

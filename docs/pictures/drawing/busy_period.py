@@ -11,15 +11,17 @@ from typing import NamedTuple
 from drawing.recorded import asked, text_of
 from drawing.svg import BLUE, GREEN, INK, ORANGE, RULE, SOFT, Picture
 
-# What `./canplan --timeline 'S 300 D' < examples/networks/davis.toml | ./canbit run` puts on the bus, by `canbit decode`.
+# the worst case of the message, and what it puts on the bus, as `canbit decode` finds it
 SCENARIO = "docs/pictures/recorded/busy_period.scenario"
 FRAMES = "docs/pictures/recorded/busy_period.frames"
 ANSWER = "examples/networks/davis.answer"
 LEFT, SCALE, TOP, ROW, HIGH = 104, 0.96, 54, 66, 26
 COLOURS = (BLUE, GREEN, ORANGE)
-ABOUT = """A chart of three messages over 852 bit times. All are queued at 0. On the bus are the frames of S 100 from 0, \
-S 200 from 122, S 300 from 243, S 100 from 365, S 200 from 487, S 100 from 608, and S 300 from 730 to the end of the \
-busy period at 852. The first frame of S 300 has the response time 362, the second, which is queued at 427, 422."""
+ABOUT = """\
+A chart of three messages over 852 bit times. All are queued at 0. On the bus are the frames of S 100 \
+from 0, S 200 from 122, S 300 from 243, S 100 from 365, S 200 from 487, S 100 from 608, and S 300 from \
+730 to the end of the busy period at 852. The first frame of S 300 has the response time 362, the \
+second, which is queued at 427, 422."""
 
 
 class Frame(NamedTuple):
@@ -32,7 +34,7 @@ class Frame(NamedTuple):
 
 
 def data() -> tuple[list[Frame], dict[str, int], int]:
-    """The frames on the bus, the bounds of the messages, and the end of the busy period. Times begin with the period."""
+    """The frames on the bus, the bounds of the messages, and the end of the busy period. It begins at 0."""
     answers = re.findall(r"^(\w \w+ \w) \d+ longest (\d+) blocking \d+ bound (\d+)", text_of(ANSWER), re.M)
     lengths = {message: int(longest) for message, longest, _ in answers}
     queues: dict[str, list[int]] = {}

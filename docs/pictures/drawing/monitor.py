@@ -15,11 +15,13 @@ WIDTH, HEIGHT = 1000, 430
 # the ports of the monitor in Verilog, as the picture names them
 PORTS = ("clk", "reset", "joins", "sample", "drive", "bus", "own_tec", "own_rec", "own_told", "own_frame")
 OUTPUTS = ("due", "told", "frame", "differs")
-ABOUT = """A test bench with two blocks side by side. On the left is your controller, the design under test. On the right \
-is riddlesage_monitor, with a golden node and a comparison. The bus leads to both. The level that the controller drives \
-leads to the monitor's port drive. The controller's error counters, event and frame lead to own_tec, own_rec, own_told and \
-own_frame, which are optional. The test bench gives clk, reset, joins and sample, and offers each frame to both. The \
-monitor's outputs are due, told, frame and differs."""
+ABOUT = """\
+A test bench with two blocks side by side. On the left is your controller, the design under test. On the \
+right is riddlesage_monitor, with a golden node and a comparison. The bus leads to both. The level that \
+the controller drives leads to the monitor's port drive. The controller's error counters, event and \
+frame lead to own_tec, own_rec, own_told and own_frame, which are optional. The test bench gives clk, \
+reset, joins and sample, and offers each frame to both. The monitor's outputs are due, told, frame and \
+differs."""
 
 
 def declared() -> None:

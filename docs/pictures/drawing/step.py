@@ -11,10 +11,12 @@ from drawing.waves import draw_wave
 
 WAVES = "docs/pictures/recorded/step.waves"
 CELL, LEFT, TOP, ROW, HIGH = 92, 92, 56, 42, 22
-ABOUT = """Eight clock cycles, two for each of four bit times: idle, SOF, ID 10 and ID 9. The enable input is 1 in the \
-second cycle of each bit time. A frame is pending from the third cycle on. The controller drives dominant in the third \
-and fourth cycle, and recessive afterwards. The bus is dominant from the third to the sixth cycle. The event is 3, \
-arbitration lost, in the sixth cycle, and 0 otherwise. The register sender is 1 in the fifth and sixth cycle."""
+ABOUT = """\
+Eight clock cycles, two for each of four bit times: idle, SOF, ID 10 and ID 9. The enable input is 1 in \
+the second cycle of each bit time. A frame is pending from the third cycle on. The controller drives \
+dominant in the third and fourth cycle, and recessive afterwards. The bus is dominant from the third to \
+the sixth cycle. The event is 3, arbitration lost, in the sixth cycle, and 0 otherwise. The register \
+sender is 1 in the fifth and sixth cycle."""
 BANDS = [("idle", GREY), ("SOF", RED), ("ID 10", BLUE), ("ID 9", BLUE)]
 
 

@@ -9,8 +9,9 @@ from drawing.svg import ACCENT, BLUE, INK, ORANGE, PANEL, RULE, SOFT, Picture
 
 WIDTH, HEIGHT = 880, 404
 WOOD, LEAF = "#8a5a00", "#2b6427"
-ABOUT = """Sets of calls on a bus at rest. The set of all calls contains the network calls. These contain the open calls \
-and the disturbed calls. What is both open and disturbed is quiet."""
+ABOUT = """\
+Sets of calls on a bus at rest. The set of all calls contains the network calls. These contain the open \
+calls and the disturbed calls. What is both open and disturbed is quiet."""
 
 
 def heading(picture: Picture, x: float, y: float, name: str, call: str, colour: str) -> None:

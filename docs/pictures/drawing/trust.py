@@ -10,10 +10,12 @@ from typing import NamedTuple
 from drawing.svg import PANEL, Picture, Point
 
 WIDTH, HEIGHT = 900, 486
-ABOUT = """A chain of boxes. The standard leads to the definitions: not proved, you read them. The definitions lead to the \
-code in Rattle: proved. From the code three arrows lead on. To programs, by compilers: trusted. To C, C++, Python, HDL \
-and JavaScript around it: only tested. From the controller in it to the circuit: proved. The circuit leads to its file in \
-Verilog or AIGER: proved. The file leads to your design: checked by a SAT solver."""
+ABOUT = """\
+A chain of boxes. The standard leads to the definitions: not proved, you read them. The definitions lead \
+to the code in Rattle: proved. From the code three arrows lead on. To programs, by compilers: trusted. \
+To C, C++, Python, HDL and JavaScript around it: only tested. From the controller in it to the circuit: \
+proved. The circuit leads to its file in Verilog or AIGER: proved. The file leads to your design: \
+checked by a SAT solver."""
 
 
 class Kind(NamedTuple):
@@ -93,9 +95,9 @@ def draw_legend(picture: Picture) -> None:
         step(picture, [(x, 396), (x + 44, 396)], kind)
         picture.text(x + 54, 400, kind.word, 12, kind="b", colour=kind.colour)
     words = [
-        "Trusted besides: the Rattle toolchain with its proof checker and compilers, the contracts of the libraries that",
-        "are used, LLVM, and the C library. What a tool makes of a file is the tool's. A solver's result rests on yosys,",
-        "the solver and the script.",
+        "Trusted besides: the Rattle toolchain with its proof checker and compilers, the contracts of the libraries",
+        "that are used, LLVM, and the C library. What a tool makes of a file is the tool's. A solver's result rests on",
+        "yosys, the solver and the script.",
     ]
     picture.lines(36, 422, words, 11)
 
