@@ -26,7 +26,7 @@ const PART = /^ {2}(jitter|blocking|earlier frames|before frames|hits|wire|less 
  * The lines below that of a message.
  * @param {string} answer
  * @param {string} frame of the message, with its DLC
- * @returns {string[]} none where it has no bound
+ * @returns {string[]} none if it has no bound
  */
 export function linesBelow(answer, frame) {
   const lines = answer.split('\n');

@@ -62,7 +62,7 @@ enum { STACK_BYTES = 1 << 20 };
 static _Alignas(16) u8 stack[STACK_BYTES];
 #define STACK_HOLDS do { if (sp - ADDRESS(stack) > STACK_BYTES) __builtin_trap(); } while (0)
 
-/* The flags (AddWithCarry of the manual): a difference carries where it borrows nothing. */
+/* The flags (AddWithCarry of the manual): a difference sets the carry if there is no borrow. */
 #define FLAGS_OF(bits, over, carries) \
   (flag_n = (i##bits)r_ < 0, flag_z = r_ == 0, flag_v = (i##bits)(over) < 0, flag_c = (carries))
 #define FLAGS_OF_SUM(bits, first, second) do { \
