@@ -1,17 +1,18 @@
-//! Calls of a bus, one behind another, by the plain simulator of `wire.rs` and `machine.rs`: `bench/library` compares
-//! what is printed here with what `library.c` prints, which reads the same scenarios and has the library for C play
-//! them. Standard library only, written from docs/ACCESS.md and docs/BUS.md.
+//! Successive calls of a bus, simulated by `wire.rs` and `machine.rs`. `bench/library` compares the output with that of
+//! `library.c`, which reads the same scenarios and plays them with the C library. Only the standard library is used;
+//! the code is written from docs/ACCESS.md and docs/BUS.md.
 //!
-//! A scenario, on standard input, has a line for each of these, in the order in which they come:
+//! A scenario on standard input consists of these lines, in the order of the calls:
 //!
-//!     port START QUEUE LOG           the next port, idle or joining, with its rooms
-//!     hold PORT COUNT                the port asks for so many overload frames
+//!     port START QUEUE LOG           the next port, `idle` or `joining`, with the capacities of its queue and its log
+//!     hold PORT COUNT                the port asks for COUNT overload frames
 //!     give PORT FRAME                the port is offered a frame between two calls
-//!     offer TIME PLACE FRAME         for the next call: a frame, to the port at this place of its bus
-//!     at TIME, in ATTEMPT OFFSET, view TIME PLACE    for the next call: a disturbance
-//!     play BITS PORT..               a call for so many bit times, on a bus of these ports
+//!     offer TIME PLACE FRAME         for the next call: a frame for the port at this place of its bus
+//!     at TIME, in ATTEMPT OFFSET, view TIME PLACE    for the next call: a hit (an injected bit error)
+//!     play BITS PORT..               a call for BITS bit times, on a bus with these ports
 //!
-//! What `give` and `play` answer is printed, and behind a call its levels and all ports, as `canbit run` writes them.
+//! The results of `give` and `play` are printed. After a call its levels and all ports follow, as `canbit run` writes
+//! them.
 
 #[path = "machine.rs"]
 mod machine;
@@ -27,7 +28,7 @@ use wire::{Bus, Hit, Offer};
 
 type Failure = Box<dyn Error>;
 
-/// What stands before the first blank, and behind it.
+/// The text before the first space, and the text after it.
 fn split(text: &str) -> Result<(&str, &str), Failure> {
     Ok(text.split_once(' ').ok_or("a line is too short")?)
 }
@@ -48,7 +49,7 @@ fn framed(text: &str) -> Result<(usize, Frame), Failure> {
     Ok((number.parse()?, Frame::parse(text)?))
 }
 
-/// The ports, each there but while a bus has it, and what the next call is given.
+/// The ports, except those that a bus has at the moment, and the offers and hits of the next call.
 #[derive(Default)]
 struct Scenario {
     ports: Vec<Option<Port>>,
@@ -98,7 +99,7 @@ impl Scenario {
         Ok(self.ports.get_mut(place).and_then(Option::as_mut).ok_or("no such port")?)
     }
 
-    /// A call, and all that is told of it.
+    /// Makes a call, and prints its result and all ports.
     fn play(&mut self, rest: &str) -> Result<(), Failure> {
         let mut numbers = rest.split(' ').map(str::parse::<usize>);
         let bits = numbers.next().ok_or("no bit times")??;
@@ -109,12 +110,12 @@ impl Scenario {
             None => self.run(bits, &places, &offers, &hits)?,
         }
         for (place, port) in self.ports.iter().flatten().enumerate() {
-            tell(place, port);
+            print_port(place, port);
         }
         Ok(())
     }
 
-    /// A call of a new bus of the ports at these places, which are put back behind it.
+    /// Makes a call of a new bus with the ports at these places, which are put back afterwards.
     fn run(&mut self, bits: usize, places: &[usize], offers: &[Offer], hits: &[Hit]) -> Result<(), Failure> {
         let mut ports = Vec::new();
         for &place in places {
@@ -132,7 +133,7 @@ impl Scenario {
     }
 }
 
-/// Why a call on so many ports is refused: by the first offer that is wrong, or else by the first hit.
+/// Why a call on this many ports is refused: the first wrong offer decides, and if there is none, the first wrong hit.
 fn refusal(offers: &[Offer], hits: &[Hit], ports: usize) -> Option<&'static str> {
     let fault = |is_early: bool, strays: bool| match (is_early, strays) {
         (true, _) => Some("bad order"),
@@ -156,7 +157,7 @@ fn digit(level: Level) -> char {
     if level == Recessive { '1' } else { '0' }
 }
 
-fn tell(place: usize, port: &Port) {
+fn print_port(place: usize, port: &Port) {
     let counters = &port.controller.counters;
     let state = match counters.state() {
         State::Active => "active",

@@ -1,6 +1,6 @@
-/* A plain decoder of classical CAN traces, independent of the crates beside it: trace text on standard input, one
- * line a frame or fault on standard output. The C library only; it is what bench/decode measures canbit against,
- * and its output is compared with canbit's. */
+/* A plain decoder for classical CAN traces, independent of the crates: it reads a trace on standard input and writes a
+ * line for each frame or fault to standard output. It uses only the C library. bench/decode compares the speed and the
+ * output of canbit with those of this decoder. */
 
 #include <inttypes.h>
 #include <stdbool.h>
@@ -9,29 +9,29 @@
 #include <stdlib.h>
 
 enum {
-    LONGEST = 118,   /* unstuffed levels of the longest frame, up to the end of its check sequence */
-    ROW_OF_REST = 11 /* recessive levels in a row, behind which a new frame may begin */
+    LONGEST = 118,   /* unstuffed levels of the longest frame, to the end of its CRC sequence */
+    ROW_OF_REST = 11 /* recessive levels in a row, after which a new frame may begin */
 };
 
 enum phase {
     IDLE,  /* between frames */
     FRONT, /* in the stuffed part of a frame */
-    TAIL,  /* behind it: delimiters, ACK slot, end of frame */
-    LOST   /* behind a fault */
+    TAIL,  /* after it: delimiters, ACK slot, end of frame */
+    LOST   /* after a fault */
 };
 
 struct decoder {
     enum phase phase;
-    uint64_t place; /* of the level that is heard, from 0 */
+    uint64_t place; /* of the level that is read, from 0 */
     uint64_t start; /* of the frame */
     uint8_t levels[LONGEST];
     unsigned count;  /* of the unstuffed levels */
-    unsigned length; /* how many the frame has, or 0 where that is not known yet */
+    unsigned length; /* how many the frame has, or 0 if that is not known yet */
     uint8_t last;
     unsigned run; /* of equal levels, the last one among them */
-    unsigned heard; /* of the tail */
+    unsigned heard; /* levels of the tail */
     bool acknowledged;
-    unsigned row; /* of recessive levels, behind a fault */
+    unsigned row; /* of recessive levels after a fault */
 };
 
 static unsigned number(const uint8_t *levels, unsigned count)
@@ -47,7 +47,7 @@ static bool is_extended(const struct decoder *decoder)
     return decoder->levels[13] == 1;
 }
 
-/* Learns how many unstuffed levels the frame has, where the last of them ends its data length code. */
+/* Sets how many unstuffed levels the frame has, if the last level ends its data length code. */
 static void learn_length(struct decoder *decoder)
 {
     bool extended = is_extended(decoder);
@@ -58,7 +58,7 @@ static void learn_length(struct decoder *decoder)
     decoder->length = base + (decoder->levels[rtr] == 1 ? 0 : 8 * (dlc < 8 ? dlc : 8));
 }
 
-static unsigned check_sequence(const uint8_t *levels, unsigned count)
+static unsigned crc_sequence(const uint8_t *levels, unsigned count)
 {
     unsigned check = 0;
     for (unsigned place = 0; place < count; place++) {
@@ -77,12 +77,12 @@ static void search(struct decoder *decoder, uint8_t level)
         decoder->phase = IDLE;
 }
 
-static void tell_fault(const struct decoder *decoder, const char *kind)
+static void print_fault(const struct decoder *decoder, const char *kind)
 {
     printf("%" PRIu64 " fault %s at %" PRIu64 "\n", decoder->start, kind, decoder->place);
 }
 
-/* Writes so many hexadecimal digits of a number, and returns where they end. */
+/* Writes the last `count` hexadecimal digits of a number, and returns where they end. */
 static char *put_digits(char *text, unsigned value, unsigned count)
 {
     for (unsigned place = count; place-- > 0;)
@@ -97,10 +97,10 @@ static char *put_word(char *text, const char *word)
     return text;
 }
 
-/* The level at this place is at fault; the search for rest begins with it. */
+/* The level at this place is wrong; the search for an idle bus begins with it. */
 static void lose(struct decoder *decoder, const char *kind, uint8_t level)
 {
-    tell_fault(decoder, kind);
+    print_fault(decoder, kind);
     decoder->phase = LOST;
     decoder->row = 0;
     search(decoder, level);
@@ -120,7 +120,7 @@ static void begin(struct decoder *decoder)
 static void end_front(struct decoder *decoder, uint8_t level)
 {
     unsigned head = decoder->count - 15;
-    if (check_sequence(decoder->levels, head) != number(decoder->levels + head, 15)) {
+    if (crc_sequence(decoder->levels, head) != number(decoder->levels + head, 15)) {
         lose(decoder, "C4", level);
         return;
     }
@@ -148,7 +148,7 @@ static void hear_front(struct decoder *decoder, uint8_t level)
         end_front(decoder, level);
 }
 
-static void tell_frame(const struct decoder *decoder, uint8_t last)
+static void print_frame(const struct decoder *decoder, uint8_t last)
 {
     const uint8_t *levels = decoder->levels;
     bool extended = is_extended(decoder);
@@ -184,7 +184,7 @@ static void hear_tail(struct decoder *decoder, uint8_t level)
     if (decoder->heard == 1) {
         decoder->acknowledged = level == 0;
     } else if (decoder->heard == 9) {
-        tell_frame(decoder, level);
+        print_frame(decoder, level);
         decoder->phase = IDLE;
     } else if (level == 0) {
         lose(decoder, "C5", level);
@@ -234,6 +234,6 @@ int main(void)
     if (ferror(stdin))
         return EXIT_FAILURE;
     if (decoder.phase == FRONT || decoder.phase == TAIL)
-        tell_fault(&decoder, "C1");
+        print_fault(&decoder, "C1");
     return fflush(stdout) == 0 ? EXIT_SUCCESS : EXIT_FAILURE;
 }

@@ -1,6 +1,6 @@
 /*
- * Two ports on one wire for so many bit times: `door N`. The first sends frame after frame; it tells how many. With
- * `door N wire` the wire is a riddlesage_wire.
+ * `door N`: two ports on one bus, for N bit times. The first transmits frame after frame; the number of frames is
+ * printed. With `door N wire` the bus is a riddlesage_wire.
  */
 #include "riddlesage.h"
 

@@ -1,4 +1,4 @@
-// As door.c, over riddlesage.hpp.
+// Like door.c, but with riddlesage.hpp.
 #include "riddlesage.hpp"
 
 #include <cstdio>

@@ -1,4 +1,4 @@
-"""As door.c, over the package."""
+"""Like door.c, but with the Python package."""
 
 import sys
 
@@ -10,8 +10,8 @@ one.offer(frame)
 for _ in range(int(sys.argv[1])):
     bus = one.drive() & other.drive()
     other.sample(bus)
-    told = one.sample(bus)
-    if told and told.event == Event.SENT:
+    happened = one.sample(bus)
+    if happened and happened.event == Event.SENT:
         sent += 1
         one.offer(frame)
 print(sent)

@@ -1,4 +1,4 @@
-//! As door.c, over the crate.
+//! Like door.c, but with the Rust crate.
 use riddlesage::{Event, Frame, Port, Refused};
 
 fn main() -> Result<(), Refused> {

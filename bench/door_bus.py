@@ -1,4 +1,4 @@
-"""As door.c, over a Bus, level by level."""
+"""Like door.c, but with a Bus, one bit time a call."""
 
 import sys
 

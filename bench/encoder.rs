@@ -1,6 +1,6 @@
-//! A plain encoder of classical CAN frames, independent of the crates beside it: frame lines on standard
-//! input, one line of levels each on standard output. Standard library only; it is what `bench/encode`
-//! measures canbit against, and its output is compared with canbit's.
+//! A plain encoder for classical CAN frames, independent of the crates. It reads frame lines on standard input, and
+//! writes a line of levels for each to standard output. It uses only the standard library. `bench/encode` compares the
+//! speed and the output of canbit with those of this encoder.
 
 mod machine;
 
@@ -12,7 +12,7 @@ fn digit(level: Level) -> u8 {
     if level == Recessive { b'1' } else { b'0' }
 }
 
-/// Puts the levels that the frame's sender drives into the line: a stuff bit stands behind five equal levels.
+/// Writes the levels that the transmitter drives into the line: a stuff bit follows five equal levels.
 fn lay_out(frame: &Frame, line: &mut Vec<u8>) {
     line.clear();
     // the bus is idle, so the start of frame begins a run

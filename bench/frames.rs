@@ -1,5 +1,5 @@
-//! Frames of classical CAN: their levels up to the end of the check sequence, and what is heard of them. `machine.rs`
-//! has the controller that sends and hears them, and hands on what programs name.
+//! Frames of classical CAN: their levels to the end of the CRC sequence, and their reception. `machine.rs` has the
+//! controller that sends and receives them, and re-exports the names that programs use.
 
 use std::error::Error;
 
@@ -72,7 +72,7 @@ impl Frame {
         Ok(Frame { id, extended, remote, dlc, data, len })
     }
 
-    /// The arbitration field as a number: the lesser one goes first.
+    /// The arbitration field as a number: the lower one has priority.
     pub fn key(&self) -> u32 {
         if self.extended {
             (self.id >> 18) << 21 | 0b11 << 19 | (self.id & 0x3ffff) << 1 | u32::from(self.remote)
@@ -109,12 +109,12 @@ impl Frame {
     }
 }
 
-/// What is heard of the stuffed part of a frame.
+/// What has been received of the stuffed part of a frame.
 pub struct Hearing {
     pub levels: Vec<Level>,
     pub last: Level,
     run: u32,
-    /// How many unstuffed levels the frame has, once they tell it.
+    /// How many unstuffed levels the frame has, once that is known.
     whole: Option<usize>,
 }
 
@@ -160,7 +160,7 @@ impl Hearing {
         Some(data_place + if remote { 0 } else { 8 * dlc.min(8) } + 15)
     }
 
-    /// Takes a level; false where it repeats five equal ones.
+    /// Takes a level; false if it is the sixth equal one in a row.
     pub fn hear(&mut self, level: Level) -> bool {
         if self.is_stuff_place() {
             if level == self.last {

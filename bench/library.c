@@ -1,7 +1,7 @@
 /*
- * Has the library for C play the calls of a bus that a scenario on standard input has, as bench/calls.rs says, and
- * prints what is printed there. With the word `run` standard input is a scenario of `canbit run`, and the library's
- * report of it is printed.
+ * Plays the calls of a bus with the C library, and prints the same lines as bench/calls.rs, where the format of the
+ * scenario on standard input is described. With the argument `run` standard input is a scenario of `canbit run`, and
+ * the library's report is printed.
  */
 #include "frame_text.h"
 #include "riddlesage.h"
@@ -13,7 +13,7 @@
 
 enum { LINE_ROOM = 512, MOST_OFFERS = 1024, MOST_HITS = 4096, MOST_BITS = 65536 };
 
-/* The ports, and what the next call is given. */
+/* The ports, and the offers and hits of the next call. */
 struct scenario {
   riddlesage_port ports[RIDDLESAGE_MOST_PORTS];
   riddlesage_offer offers[MOST_OFFERS];
@@ -75,7 +75,7 @@ static void add_offer(struct scenario *scenario, const char *line)
   scenario->offers[scenario->offer_count++] = offer;
 }
 
-/* Adds a hit. What its kind does not name has numbers of no use. */
+/* Adds a hit. Fields that its kind does not use have invalid values. */
 static void add_hit(struct scenario *scenario, const char *line)
 {
   riddlesage_hit hit = { UINT64_MAX, UINT64_MAX, UINT64_MAX, SIZE_MAX, RIDDLESAGE_HIT_AT };
@@ -90,7 +90,7 @@ static void add_hit(struct scenario *scenario, const char *line)
   scenario->hits[scenario->hit_count++] = hit;
 }
 
-static void tell_port(riddlesage_port *port, size_t place)
+static void print_port(riddlesage_port *port, size_t place)
 {
   static const char *const states[] = { "active", "passive", "off" };
   uint16_t transmit, receive;
@@ -113,8 +113,8 @@ static void tell_port(riddlesage_port *port, size_t place)
   }
 }
 
-/* Tells what a call answered: behind an OK how many frames were refused, and the levels. */
-static void tell_call(riddlesage_status status, size_t refused, const uint8_t *levels, size_t bits)
+/* Prints the status of a call, and after an OK the number of refused frames, and the levels. */
+static void print_call(riddlesage_status status, size_t refused, const uint8_t *levels, size_t bits)
 {
   size_t time;
 
@@ -143,9 +143,9 @@ static void play(struct scenario *scenario, const char *line)
   status = riddlesage_play(bus, count, scenario->offers, scenario->offer_count, scenario->hits, scenario->hit_count,
                            levels, bits, &refused);
   scenario->offer_count = scenario->hit_count = 0;
-  tell_call(status, refused, levels, bits);
+  print_call(status, refused, levels, bits);
   for (place = 0; place < scenario->port_count; place++)
-    tell_port(&scenario->ports[place], place);
+    print_port(&scenario->ports[place], place);
 }
 
 static void read_line(struct scenario *scenario, const char *line)
@@ -184,11 +184,11 @@ static void play_all(void)
 static void report(void)
 {
   enum { TEXT_ROOM = 1 << 20 };
-  static char text[TEXT_ROOM], told[TEXT_ROOM];
+  static char text[TEXT_ROOM], output[TEXT_ROOM];
   size_t length = fread(text, 1, sizeof text, stdin), count;
 
-  demand(riddlesage_run(text, length, told, sizeof told, &count, NULL));
-  fwrite(told, 1, count, stdout);
+  demand(riddlesage_run(text, length, output, sizeof output, &count, NULL));
+  fwrite(output, 1, count, stdout);
 }
 
 int main(int count, char **words)

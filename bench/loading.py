@@ -1,4 +1,4 @@
-"""The benches as modules, for what each generates, builds and compares."""
+"""Loads benchmarks as modules, so that others can use what they generate, build and compare."""
 
 from __future__ import annotations
 
@@ -11,7 +11,7 @@ BENCH = os.path.dirname(os.path.realpath(__file__))
 
 
 def bench(name: str) -> ModuleType:
-    """The bench of this name."""
+    """The benchmark of this name, as a module."""
     loader = importlib.machinery.SourceFileLoader(f"bench_{name}", os.path.join(BENCH, name))
     spec = importlib.util.spec_from_loader(loader.name, loader)
     if spec is None:

@@ -1,7 +1,8 @@
-//! A plain controller with a queue and a log, for simulators of classical CAN at whole bit times: written from
-//! docs/ACCESS.md, independent of the crates beside it, standard library only. Its frames are in `frames.rs` beside it.
-//! `simulator.rs` has a bus of them, `encoder.rs` encodes its frames, and `conformance/adapters/simulator.rs` plays the
-//! conformance kit with one. Each of the three programs uses a part of what is here.
+//! A plain controller with a queue and a log, for bit-level simulators of classical CAN. It is written from
+//! docs/ACCESS.md, independent of the crates, and uses only the standard library. Its frames are in `frames.rs`.
+//! `simulator.rs` has a bus of such controllers, `encoder.rs` encodes its frames, and
+//! `conformance/adapters/simulator.rs` plays the conformance kit with one. Each of the three programs uses a part of
+//! this file.
 #![allow(dead_code)]
 
 #[path = "frames.rs"]
@@ -87,7 +88,7 @@ pub enum ErrorKind {
     Acknowledgement,
 }
 
-/// What a bit time tells. The frame of the first two is the controller's `frame`.
+/// The event of a bit time. The frame of the first two is the controller's `frame`.
 #[derive(Clone, Copy)]
 pub enum Event {
     Sent,
@@ -102,9 +103,9 @@ pub enum Event {
 pub struct Controller {
     phase: Phase,
     hearing: Hearing,
-    /// The frame that the controller sends, with its unstuffed levels.
+    /// The frame that the controller transmits, with its unstuffed levels.
     sending: Option<(Frame, Vec<Level>)>,
-    /// Whether the CRC sequence that was heard is right, and the frame.
+    /// Whether the received CRC sequence is right, and the frame.
     agrees: bool,
     pub frame: Option<Frame>,
     pub counters: Counters,
@@ -145,7 +146,7 @@ impl Controller {
         }
     }
 
-    /// Counts a cause. With a TEC of 256 the controller is bus off.
+    /// Counts an error or a success. With a TEC of 256 the controller is bus off.
     fn count(&mut self, cause: Cause) {
         self.counters.count(cause);
     }
@@ -168,7 +169,7 @@ impl Controller {
         Some(Event::Error(kind))
     }
 
-    /// An error where the levels have a fixed form: a sender's is that it sees another level than its own.
+    /// An error in a field of fixed form: for a transmitter, a bit error if it sees another level than its own.
     fn error_of_form(&mut self) -> Option<Event> {
         self.error(if self.sending.is_some() { ErrorKind::Bit } else { ErrorKind::Form })
     }
@@ -370,7 +371,7 @@ impl Controller {
         }
     }
 
-    /// A level at a controller that is on the bus, or joining.
+    /// Samples a level at a controller that is on the bus or joining.
     #[inline]
     fn take_part(&mut self, waiting: Option<&Frame>, seen: Level) -> Option<Event> {
         match (self.phase, seen) {
@@ -432,7 +433,7 @@ pub struct Port {
     pub controller: Controller,
     pub queue: VecDeque<Frame>,
     pub queue_room: usize,
-    /// The place of the frame that goes first.
+    /// The place of the frame with the highest priority.
     pub next: usize,
     pub log: Vec<(Frame, bool)>,
     pub log_room: usize,
@@ -456,7 +457,7 @@ impl Port {
         self.queue.get(self.next)
     }
 
-    /// Looks for the first of the frames with the least key.
+    /// Finds the first of the frames with the lowest key.
     fn find_next(&mut self) {
         let keys = self.queue.iter().map(Frame::key).enumerate();
         self.next = keys.min_by_key(|&(_, key)| key).map_or(0, |(place, _)| place);

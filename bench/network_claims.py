@@ -1,10 +1,10 @@
-"""What the theorem on a network claims of a call of `Bus::play_disturbed`.
+"""What the theorem on networks claims about a call of `Bus::play_disturbed`.
 
-It is worked out from the offers, the hits, and what the ports had before: which attempt sends which frame when, the
-levels, the logs and the counters.
+The claims follow from the offers, the hits, and the state of the ports before the call: which attempt sends which frame
+when, the levels, the logs and the counters.
 
-Standard library only, written from docs/FRAMES.md and the section "Networks" of docs/BUS.md: no port, no phase and no
-step. Levels are 0 (dominant) and 1 (recessive).
+Standard library only, written from docs/FRAMES.md and the section "Networks" of docs/BUS.md. It has no ports, no phases
+and no steps. Levels are 0 (dominant) and 1 (recessive).
 """
 
 from __future__ import annotations
@@ -29,7 +29,7 @@ from repair_claims import (
 
 
 class Offer(NamedTuple):
-    """At this time the port with this number is offered this frame."""
+    """A frame that is offered to the port with this number at this time."""
 
     time: int
     node: int
@@ -37,7 +37,7 @@ class Offer(NamedTuple):
 
 
 class Attempt(NamedTuple):
-    """When it starts, the offer that it sends, where it is hit, if it is, and its levels, intermission included."""
+    """An attempt: its start, the offer that it sends, the offset of its hit if any, its levels with intermission."""
 
     time: int
     offer: Offer
@@ -45,13 +45,13 @@ class Attempt(NamedTuple):
     levels: list[int]
 
     def ended(self) -> int:
-        """When its wire has ended: where it is hit, with its last level."""
+        """When its frame has ended; if it is hit, the end of its levels."""
         return self.time + len(self.levels) - (0 if self.offset is not None else len(INTERMISSION))
 
 
 @functools.lru_cache(maxsize=4096)
 def attempt_levels(frame: Frame, offset: int | None) -> list[int]:
-    """The levels of an attempt that is hit at an offset, or at none, intermission included."""
+    """The levels of an attempt that is hit at this offset, or not at all, with intermission."""
     wire = spelled(frame).wire
     if offset is None:
         return wire + INTERMISSION
@@ -60,13 +60,13 @@ def attempt_levels(frame: Frame, offset: int | None) -> list[int]:
 
 
 def course(offers: Iterable[Offer], hits: dict[int, int]) -> list[Attempt]:
-    """The attempts of these offers, which stand in the order of their times; each attempt that is hit has an offset."""
+    """The attempts for these offers, which are in the order of time; `hits` has the offset of each attempt hit."""
     attempts: list[Attempt] = []
     left, free = list(offers), 0
     while left:
         time = max(free, min(offer.time for offer in left))
         offered = [offer for offer in left if offer.time <= time]
-        # the least field, and of its offers the first
+        # the lowest field, and the first of its offers
         offer = min(offered, key=lambda offer: arbitration_field(offer.frame))
         offset = hits.get(len(attempts))
         levels = attempt_levels(offer.frame, offset)
@@ -78,12 +78,12 @@ def course(offers: Iterable[Offer], hits: dict[int, int]) -> list[Attempt]:
 
 
 def are_in_windows(attempts: Iterable[Attempt]) -> bool:
-    """Whether each hit is in the window of its attempt's frame."""
+    """Whether each hit is in the window of the frame of its attempt."""
     return all(attempt.offset is None or attempt.offset in spelled(attempt.offer.frame).window for attempt in attempts)
 
 
 def line(attempts: Iterable[Attempt], length: int) -> list[int]:
-    """So many levels of the bus."""
+    """The first `length` levels of the bus."""
     levels = [RECESSIVE] * length
     for attempt in attempts:
         part = attempt.levels[: max(0, length - attempt.time)]
@@ -92,7 +92,7 @@ def line(attempts: Iterable[Attempt], length: int) -> list[int]:
 
 
 def log(attempts: Iterable[Attempt], node: int, time: int | None = None) -> list[Entry]:
-    """The entries of a port, frames and whether they were sent: of the attempts whose wire has ended by a time."""
+    """The log of a port, frames and whether it sent them, for the attempts whose frame has ended by this time."""
     return [
         (attempt.offer.frame, attempt.offer.node == node)
         for attempt in attempts
@@ -101,7 +101,7 @@ def log(attempts: Iterable[Attempt], node: int, time: int | None = None) -> list
 
 
 def tallies(attempts: Iterable[Attempt], counters: Iterable[Counts]) -> list[list[Counts]]:
-    """The counters of each port, (TEC, REC), after each number of attempts, from these on."""
+    """The counters of each port, (TEC, REC), after each number of attempts, starting from these."""
     tallies = [list(counters)]
     for attempt in attempts:
         slot = len(spelled(attempt.offer.frame).wire) - 9
@@ -112,12 +112,12 @@ def tallies(attempts: Iterable[Attempt], counters: Iterable[Counts]) -> list[lis
 
 
 def are_borne(tallies: Iterable[list[Counts]]) -> bool:
-    """Whether no counter comes to 128."""
+    """Whether no counter reaches 128."""
     return all(counter < 128 for tally in tallies for port in tally for counter in port)
 
 
 def waiting_bounds(offers: list[Offer], attempts: list[Attempt]) -> Iterator[tuple[int, int]]:
-    """Of each offer that is sent: when its attempt starts, and when it starts at most."""
+    """For each offer that is sent: when its attempt starts, and the upper bound on that time."""
     fields: dict[tuple[int, ...], list[int]] = {}
     for place, offer in enumerate(offers):
         fields.setdefault(tuple(arbitration_field(offer.frame)), []).append(place)

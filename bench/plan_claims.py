@@ -1,4 +1,4 @@
-"""What the response time analysis claims of the messages of a network: how late each frame's wire ends at most.
+"""What the response-time analysis claims about the messages of a network: their worst-case response times.
 
 Standard library only, written from docs/PLANNING.md. All times are whole bit times.
 """
@@ -13,7 +13,7 @@ from repair_claims import INTERMISSION, Frame, spelled
 
 
 class Message(NamedTuple):
-    """How long a frame keeps the bus at most, how far apart releases are at least, and how late offers are at most."""
+    """The longest time that a frame occupies the bus, the least time between releases, and the queuing jitter."""
 
     longest: int
     period: int
@@ -21,33 +21,33 @@ class Message(NamedTuple):
 
 
 class HitRate(NamedTuple):
-    """So many hits in any stretch of bit times, and one more for each spacing that fits into it; none more with 0."""
+    """The error model: `burst` hits in any interval, and one more for each `spacing` in it, unless that is 0."""
 
     burst: int
     spacing: int
 
     def most(self, long: int) -> int:
-        """How many there are at most in so many bit times."""
+        """The greatest number of hits in this many bit times."""
         return self.burst + (long // self.spacing if self.spacing else 0)
 
 
 def busy_time(frame: Frame) -> int:
-    """How long a frame keeps the bus: its wire, and the intermission."""
+    """How long a frame occupies the bus: its levels, and the intermission."""
     return len(spelled(frame).wire) + len(INTERMISSION)
 
 
 def longest_busy(frame: Frame) -> int:
-    """How long a frame with this identifier, of this kind and with this DLC keeps the bus at most."""
+    """The longest time that a frame with this identifier, kind and DLC occupies the bus."""
     return longest_wire(frame) + len(INTERMISSION)
 
 
 def arrivals(message: Message, long: int) -> int:
-    """How many frames are offered in so many bit times at most."""
+    """The greatest number of frames that are offered in this many bit times."""
     return -(-(long + message.jitter) // message.period)
 
 
 def least(enough: Callable[[int], int], start: int, limit: int) -> int | None:
-    """The least number from a start on for which so much is enough; none above a limit."""
+    """The least number from a start on that is at least what `enough` needs for it; none above a limit."""
     number = start
     while number <= limit:
         needed = enough(number)
@@ -58,19 +58,19 @@ def least(enough: Callable[[int], int], start: int, limit: int) -> int | None:
 
 
 def widest(messages: list[Message], place: int) -> int:
-    """The longest time on the bus of the message at this place and of those before it."""
+    """The longest time on the bus of the message at this place and of those with higher priority."""
     return max(message.longest for message in messages[: place + 1])
 
 
 def hits_until(messages: list[Message], place: int, rate: HitRate, long: int) -> tuple[int, int]:
-    """How many hits there are in attempts that begin within so many bit times, and what they cost."""
+    """The number of hits in attempts that begin within this many bit times, and the bit times that they cost."""
     wide = widest(messages, place)
     hits = rate.most(long + wide - 5)
     return hits, hits * (wide + 13)
 
 
 def frames(messages: list[Message], place: int, rate: HitRate, limit: int) -> list[tuple[int, int]] | None:
-    """How late each frame of the message at this place starts and ends in a busy period, by numbers up to a limit."""
+    """The latest start and end of each frame of the message at this place in a busy period; none above a limit."""
     own, higher = messages[place], messages[:place]
     blocking = max((message.longest - 1 for message in messages[place + 1 :]), default=0)
 
@@ -95,13 +95,13 @@ def frames(messages: list[Message], place: int, rate: HitRate, limit: int) -> li
 
 
 def bound(messages: list[Message], place: int, rate: HitRate, limit: int) -> int | None:
-    """The least bound for the message at this place, by numbers up to a limit."""
+    """The worst-case response time of the message at this place; none above a limit."""
     found = frames(messages, place, rate, limit)
     return None if found is None else max(end for _, end in found)
 
 
 def first_late(messages: list[Message], deadlines: list[int], rate: HitRate, limit: int) -> int | None:
-    """The place of the first message whose bound is above its deadline, or has none; each deadline at its message's."""
+    """The place of the first message that has no bound, or whose bound exceeds its deadline."""
     for place, deadline in enumerate(deadlines):
         most = bound(messages, place, rate, limit)
         if most is None or most > deadline:
@@ -110,5 +110,5 @@ def first_late(messages: list[Message], deadlines: list[int], rate: HitRate, lim
 
 
 def shorter(message: Message, percent: int) -> Message:
-    """The same with a period that is shorter by so many per cent."""
+    """The same message with a period that is shorter by this many per cent."""
     return message._replace(period=max(1, message.period * (100 - percent) // 100))

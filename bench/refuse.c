@@ -1,4 +1,4 @@
-/* Refuses one allocation: loaded before the C library, it lets the allocation whose number, from 1, stands in
+/* Refuses one allocation: loaded before the C library, it lets the allocation fail whose number, from 1, is in
    REFUSE fail, and leaves how many there were in the file that COUNT names. */
 #define _GNU_SOURCE
 #include <dlfcn.h>

@@ -1,10 +1,10 @@
-"""What the theorem on a disturbed bus claims of a call of `Bus::run`.
+"""What the theorem on a disturbed bus claims about a call of `Bus::run`.
 
-It is worked out from the frames that wait and the hits: where each attempt begins and what it has on the wire, the one
-list of every log, and what each port counts.
+The claims follow from the pending frames and the hits: when each attempt begins, its levels on the bus, the entries of
+all logs, and the counters of each port.
 
-Standard library only, written from docs/FRAMES.md and the section "A disturbed bus" of docs/BUS.md: no port, no
-phase and no step. Levels are 0 (dominant) and 1 (recessive).
+Standard library only, written from docs/FRAMES.md and the section "A disturbed bus" of docs/BUS.md. It has no ports, no
+phases and no steps. Levels are 0 (dominant) and 1 (recessive).
 """
 
 from __future__ import annotations
@@ -33,13 +33,13 @@ class Frame(NamedTuple):
     data: bytes
 
     def text(self) -> str:
-        """Its text, as docs/FORMATS.md has it."""
+        """Its text, in the format of docs/FORMATS.md."""
         head = f"E {self.identifier:08x}" if self.extended else f"S {self.identifier:03x}"
         words = [head, "R" if self.remote else "D", str(self.dlc)]
         return " ".join(words + ([self.data.hex()] if self.data else []))
 
 
-# of a log: a frame, and whether it was sent
+# an entry of a log: a frame, and whether it was sent
 Entry = tuple[Frame, bool]
 
 
@@ -49,7 +49,7 @@ def bits(number: int, count: int) -> list[int]:
 
 
 def check_sequence(levels: list[int]) -> list[int]:
-    """The remainder of these levels by the generator, by long division: fifteen bits."""
+    """The CRC sequence of these levels: the remainder of a long division by the generator, fifteen bits."""
     rest = levels + [0] * 15
     for place in range(len(levels)):
         if rest[place]:
@@ -77,7 +77,7 @@ def unstuffed(frame: Frame) -> list[int]:
 
 
 class Spelled(NamedTuple):
-    """The levels of a frame on the wire, and what kinds of places they are."""
+    """The levels of a frame on the bus, the places of its stuff bits, and its window."""
 
     wire: list[int]
     stuffed_part: int
@@ -86,13 +86,13 @@ class Spelled(NamedTuple):
 
 
 def is_stuff_place(levels: list[int]) -> bool:
-    """Whether the place behind these levels is one: five equal ones stand before it."""
+    """Whether a stuff bit follows these levels: the last five are equal."""
     return len(levels) >= 5 and len(set(levels[-5:])) == 1
 
 
 @functools.lru_cache(maxsize=4096)
 def spelled(frame: Frame) -> Spelled:
-    """The levels of a frame on the wire."""
+    """The levels of a frame on the bus, with its places."""
     levels: list[int] = []
     stuff_places: set[int] = set()
     first = 0
@@ -108,12 +108,12 @@ def spelled(frame: Frame) -> Spelled:
         stuff_places.add(len(levels))
         levels.append(1 - levels[-1])
     wire = levels + FIXED_FORM
-    # from behind the last level of the field to the last but one of the end of frame
+    # from the level after the arbitration field to the last but one of the end of frame
     return Spelled(wire, len(levels), frozenset(stuff_places), range(first, len(wire) - 1))
 
 
 def unstuffed_length(levels: list[int]) -> int | None:
-    """How many unstuffed levels a frame has that begins with these, once they tell it."""
+    """The number of unstuffed levels of a frame that begins with these, if they determine it."""
     if len(levels) < 14:
         return None
     rtr = 32 if levels[13] == RECESSIVE else 12
@@ -125,7 +125,7 @@ def unstuffed_length(levels: list[int]) -> int | None:
 
 
 def lateness(frame: Spelled, offset: int) -> int:
-    """By how many bit times the receivers' error comes behind the sender's, for a hit at this offset."""
+    """How many bit times after the transmitter the receivers detect an error, for a hit at this offset."""
     if offset >= frame.stuffed_part or offset in frame.stuff_places:
         return 0
     heard = frame.wire[:offset] + [1 - frame.wire[offset]]
@@ -133,7 +133,7 @@ def lateness(frame: Spelled, offset: int) -> int:
     late = 0
     while True:
         late += 1
-        # what a receiver refuses now: a sixth dominant level, or a dominant CRC delimiter
+        # a receiver now detects an error: a sixth dominant level, or a dominant CRC delimiter
         if is_stuff_place(heard):
             if heard[-1] == DOMINANT:
                 return late
@@ -145,7 +145,7 @@ def lateness(frame: Spelled, offset: int) -> int:
 
 
 class Attempt(NamedTuple):
-    """The place of its frame, when it begins, where it is hit, if it is, and how much later the receivers err."""
+    """The place of its frame, its start, the offset of its hit if any, and the delay of the receivers' error."""
 
     frame: int
     begin: int
@@ -154,7 +154,7 @@ class Attempt(NamedTuple):
 
 
 def counted(counters: Counts, sends: bool, offset: int | None, slot: int) -> Counts:
-    """The counters of a port behind an attempt at a frame with this ACK slot, hit at this offset or not at all."""
+    """The counters of a port after an attempt at a frame with this ACK slot, hit at this offset or not at all."""
     tec, rec = counters
     if offset is None:
         return (max(tec - 1, 0), rec) if sends else (tec, max(rec - 1, 0))
@@ -164,9 +164,9 @@ def counted(counters: Counts, sends: bool, offset: int | None, slot: int) -> Cou
 
 
 class Claims:
-    """The claims for a list of frames in the order of arbitration, the port that holds each of them, and the hits.
+    """The claims for a list of frames in the order of their priority, the port that sends each of them, and the hits.
 
-    The hits have the offset of each attempt that is hit.
+    `hits` has the offset of each attempt that is hit.
     """
 
     def __init__(self, ports: int, frames: list[Frame], holders: list[int], hits: dict[int, int]) -> None:
@@ -200,7 +200,7 @@ class Claims:
         return tallies
 
     def meets_premises(self) -> bool:
-        """Each hit in the window of its attempt's frame; at most fifteen, or no tally of 128."""
+        """Whether each hit is in the window of its frame, and there are at most fifteen, or no counter reaches 128."""
         within = all(
             attempt.offset is None or attempt.offset in self.spelled[attempt.frame].window for attempt in self.attempts
         )
@@ -211,12 +211,12 @@ class Claims:
         return max(max(tec, rec) for tally in self.tallies for tec, rec in tally)
 
     def span(self) -> int:
-        """After how many bit times at most all is delivered."""
+        """The greatest number of bit times until all frames are delivered."""
         undisturbed = sum(len(frame.wire) + 3 for frame in self.spelled)
         return undisturbed + sum(offset + 24 for offset in self.hits.values())
 
     def delays(self) -> list[int]:
-        """Of each hit, after how many bit times the next attempt begins."""
+        """For each hit the number of bit times until the next attempt begins."""
         return [18 + attempt.late for attempt in self.attempts if attempt.offset is not None]
 
     def level(self, time: int) -> int:
@@ -224,5 +224,5 @@ class Claims:
         return self.line[time] if time < len(self.line) else RECESSIVE
 
     def log(self, port: int) -> list[Entry]:
-        """The whole log of a port: frames, and whether they were sent."""
+        """The complete log of a port: frames, and whether the port sent them."""
         return [(frame, holder == port) for frame, holder in zip(self.frames, self.holders)]

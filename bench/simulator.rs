@@ -1,8 +1,8 @@
-//! A plain simulator of a classical CAN bus at whole bit times, independent of the crates beside it: a scenario
-//! on standard input, the checksum of the recorded levels and a line for each port on standard output; then the next,
-//! where a line `next` stands between two. Standard library only, written from docs/ACCESS.md and docs/BUS.md; it is
-//! what `bench/bus` measures `Bus::run` against, and its output is compared with that of `bench/bus_driver.rattle`,
-//! which reads the same scenarios. Its bus is in `wire.rs`, its controllers in `machine.rs`.
+//! A plain bit-level simulator of a classical CAN bus, independent of the crates. It reads a scenario on standard
+//! input, and writes the checksum of the recorded levels and a line for each port to standard output. A line `next`
+//! separates two scenarios. It uses only the standard library, and is written from docs/ACCESS.md and docs/BUS.md.
+//! `bench/bus` compares the speed of `Bus::run` with it, and its output with that of `bench/bus_driver.rattle`, which
+//! reads the same scenarios. Its bus is in `wire.rs`, its controllers in `machine.rs`.
 
 #[path = "machine.rs"]
 mod machine;
@@ -18,7 +18,7 @@ use wire::{Bus, Hit, Offer};
 struct Scenario {
     ports: usize,
     joining: usize,
-    /// how many bit times the bus rests before the first call
+    /// how many bit times the bus is idle before the first call
     rest: usize,
     bits: usize,
     call: usize,
@@ -30,7 +30,7 @@ struct Scenario {
     offers: Vec<Offer>,
 }
 
-/// The frame behind its port's number.
+/// A frame after the number of its port.
 fn parse_frame(text: &str) -> Result<(usize, Frame), Box<dyn Error>> {
     let (port, text) = text.split_once(' ').ok_or("a frame of no port")?;
     Ok((port.parse()?, Frame::parse(text)?))
@@ -73,7 +73,7 @@ impl Scenario {
         Ok(scenario)
     }
 
-    /// A port before its first bit time; the last of them join.
+    /// A port before its first bit time; the last ports join.
     fn port(&self, place: usize) -> Port {
         let phase = if place + self.joining < self.ports {
             Phase::Idle
@@ -105,7 +105,7 @@ impl Checksum {
     }
 }
 
-/// Runs a scenario, and prints what came of it.
+/// Runs a scenario, and prints the result.
 fn play(scenario: &Scenario) {
     let ports = (0..scenario.ports).map(|place| scenario.port(place)).collect();
     let mut bus = Bus::new(ports);
@@ -117,7 +117,7 @@ fn play(scenario: &Scenario) {
         sum.add(u64::from(level == Recessive));
     }
     for _ in 0..scenario.bits / scenario.call {
-        // a frame that finds no room in its queue is let go
+        // a frame that a full queue refuses is dropped
         for &(port, frame) in &scenario.frames {
             bus.ports[port].offer(frame);
         }

@@ -1,9 +1,9 @@
-//! A plain bus of the controllers of `machine.rs`, with offers and hits: written from docs/BUS.md, independent of the
-//! crates beside it, standard library only. `simulator.rs` and `calls.rs` run one.
+//! A plain bus of the controllers of `machine.rs`, with offers and hits. It is written from docs/BUS.md, independent of
+//! the crates, and uses only the standard library. `simulator.rs` and `calls.rs` use it.
 
 use crate::machine::{Dominant, Frame, Level, Port, Recessive};
 
-/// A disturbance, in the order in which a list has them.
+/// A hit (an injected bit error); the order is that of a list of hits.
 #[derive(Clone, Copy, PartialEq, Eq, PartialOrd, Ord)]
 pub enum Hit {
     At(u64),
@@ -19,14 +19,14 @@ pub struct Offer {
 
 pub struct Bus {
     pub ports: Vec<Port>,
-    /// How many recessive levels were recorded last, up to eleven.
+    /// How many recessive levels were recorded last, at most eleven.
     rest: u32,
-    /// How many offers a full queue has refused.
+    /// The number of offers that a full queue has refused.
     pub refused: usize,
 }
 
 impl Bus {
-    /// A bus at rest.
+    /// An idle bus.
     pub fn new(ports: Vec<Port>) -> Bus {
         Bus { ports, rest: 11, refused: 0 }
     }

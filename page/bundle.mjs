@@ -1,4 +1,4 @@
-// Puts the page together: bundle.mjs SOURCES WASM SCENARIOS NETWORKS OUT. What stands in index.html more than once comes from
+// Puts the page together: bundle.mjs SOURCES WASM SCENARIOS NETWORKS OUT. What index.html has more than once comes from
 // parts.html: @NAME WORD | WORD..@ is the part of this name with these words as its parameters. The scripts become one, in the
 // order in which they need one another, those of the worker another one, the module is packed, and the page's own policy allows
 // these scripts and styles and no network.
@@ -14,7 +14,7 @@ const PART = /^<!-- ([a-z]+) ([A-Z ]+): .* -->\n/m;
 const USE = /^( *)@([a-z]+)(?: ([^@\n]+))?@$/gm;
 
 /**
- * The scripts that one needs, and itself behind them, each in a scope of its own.
+ * The scripts that one needs, and then this one, each in a scope of its own.
  * @param {string} folder
  * @param {string} name
  * @param {Map<string, string>} found those that are there already, in order
@@ -37,7 +37,7 @@ function withNeeded(folder, name, found = new Map()) {
  */
 function scriptOf(folder, name) {
   const script = `\n${[...withNeeded(folder, name).values()].join('\n\n')}\n`;
-  new Script(script); // a mistake of syntax is told here
+  new Script(script); // reports a syntax error
   if (script.includes('</script')) throw new Error(`${name}.js would end before its end`);
   return script;
 }
@@ -45,7 +45,7 @@ function scriptOf(folder, name) {
 /**
  * A page with its parts, each in lines of its own, as far in as the line that names it.
  * @param {string} page
- * @param {string} parts each behind a comment that tells its name, its parameters and what it is
+ * @param {string} parts each after a comment with its name, its parameters and its purpose
  */
 function withParts(page, parts) {
   const [, ...told] = parts.split(PART);
@@ -61,13 +61,13 @@ function withParts(page, parts) {
 }
 
 /**
- * Fills in the one place where a mark stands.
+ * Fills in the only place of a mark.
  * @param {string} page
  * @param {string} mark
  * @param {string} text
  */
 function fill(page, mark, text) {
-  if (page.split(mark).length !== 2) throw new Error(`${mark} does not stand once in the page`);
+  if (page.split(mark).length !== 2) throw new Error(`${mark} must be in the page exactly once`);
   return page.replace(mark, () => text);
 }
 
@@ -77,7 +77,7 @@ function policyHash(text) {
 }
 
 /**
- * The documents of a folder, by their names, as JSON that may stand in a page.
+ * The documents of a folder, by their names, as JSON that a page may contain.
  * @param {string} from
  */
 function documentsIn(from) {

@@ -1,13 +1,14 @@
 /*
- * What the proved module asks of its host for memory. It is trusted: a block that is given is at least so large, aligned
- * as is asked, and lies beside all that is in use. Blocks stand one behind another from where the page says up to the end
- * of memory. The last one may grow, shrink or go; what others leave free is free again when the page begins anew.
+ * The memory allocator that the proved module needs from its host. It is trusted: a block is at least as large as
+ * requested, aligned as requested, and overlaps no block in use. Blocks follow one another, from the address that the
+ * page sets to the end of memory. The last block may grow, shrink or be freed; other freed blocks are free again only
+ * after page_heap_begin.
  */
 typedef __SIZE_TYPE__ size_t;
 
 enum { PAGE_BYTES = 65536 };
 
-/* Whether there was memory, and where it is; behind 0 the place has no meaning. Both are as wide as an address. */
+/* Whether there was memory, and its address, which has no meaning if there was none. Both are as wide as an address. */
 struct tried {
   size_t given;
   char *at;
@@ -18,18 +19,18 @@ struct tried rattle_realloc(char *at, size_t kept, size_t size, size_t alignment
 void rattle_dealloc(char *at);
 void page_heap_begin(char *at);
 
-/* Where the last block begins, and what lies behind it. */
+/* The beginning of the last block, and the address after it. */
 static char *last;
 static char *next;
 
-/* All blocks are free, and the next one will stand here or behind it. No value that was made before may be in use. */
+/* Frees all blocks; the next one will be here or after it. No value that was made before may be in use. */
 __attribute__((export_name("page_heap_begin"))) void page_heap_begin(char *at)
 {
   last = at;
   next = at;
 }
 
-/* A block of so many bytes that begins here, if memory goes so far. */
+/* A block of this size that begins here, if there is enough memory. */
 static struct tried placed(char *at, size_t size)
 {
   size_t end = __builtin_wasm_memory_size(0) * PAGE_BYTES;

@@ -1,4 +1,4 @@
-// The words of the controller: its phases, what it tells, and what its counters count.
+// The constants of the controller: its phases, its events, and the causes of counter changes.
 
 `ifndef CAN_WORDS_VH
 `define CAN_WORDS_VH
@@ -38,7 +38,7 @@
 `define WENT_OFF 4'd10
 `define RECOVERED 4'd11
 
-// causes of a count
+// causes of counter changes
 `define NO_CAUSE 3'd0
 `define RECEIVER_BY_1 3'd1
 `define RECEIVER_BY_8 3'd2

@@ -1,8 +1,8 @@
 """Random traffic for a controller.
 
-A tester sends frames, whole and broken, listens, acknowledges or does not, and disturbs. What it does next follows from
-what the golden model did, so that frames really pass; what comes out is a case of the conformance kit, which says for
-each bit time what the tester drives.
+A tester sends correct and broken frames, listens, acknowledges or does not, and disturbs the bus. Its next action
+depends on what the golden model did, so that frames really get through. The result is a case of the conformance kit,
+which says what the tester drives in each bit time.
 """
 
 from __future__ import annotations
@@ -15,15 +15,15 @@ from kit.documents import Case, Transcript
 from kit.frames import Frame, Wire
 
 MOST_WAITING = 5
-# of a flag, its delimiter, and intermission but its last
+# a flag, its delimiter, and intermission without its last level
 FLAG_LEVELS = 6 + 8 + 2
 GAPS = (0, 1, 2, 3, 3, 3, 4, 8, 11, 12, 20)
-# bytes that make stuff bits, and others
+# bytes that lead to stuff bits, and others
 BYTES = (0x00, 0xFF, 0x0F, 0xF8, 0x07, 0x55, 0xC3)
 
 
 def arbitration_field(text: str) -> str:
-    """The levels by which frames are sorted out: the lesser string goes first."""
+    """The levels that arbitration compares: the lower string has priority."""
     frame = Frame.parse(text)
     wire = frame.wire()
     parts = ("base", "srr", "ide", "extension", "rtr") if frame.extended else ("base", "rtr", "ide")
@@ -36,17 +36,17 @@ def first_difference(one: str, other: str) -> int | None:
 
 
 class Traffic:
-    """One run while it is made."""
+    """A run that is being made."""
 
     def __init__(self, name: str, seed: str, golden: Adapter) -> None:
         self._random = random.Random(seed)
         start = "joining" if self._random.random() < 0.2 else "idle"
-        # in a rough run none of the controller's frames gets through, until it is bus off
+        # in a rough run no frame of the controller gets through, until it is bus off
         self._is_rough = self._chance(0.2)
         self._scene = Scene(golden, "cosim", name, f"random traffic of seed {seed}", start)
 
     def made(self, bits: int) -> tuple[Case, Transcript]:
-        """A run of at least so many bit times, and what the golden model did in it."""
+        """A run of at least this many bit times, and what the golden model did in it."""
         while self._scene.time < bits:
             self._hand_over()
             if self._chance(0.9):
@@ -57,7 +57,7 @@ class Traffic:
         return self._scene.finished()
 
     def _flag_left(self) -> int:
-        """What is left of the error or overload frame behind the last event, and of two levels of intermission."""
+        """The rest of the error or overload frame after the last event, and two levels of intermission."""
         events = self._scene.events
         if not events or not events[-1][1].startswith(("error", "overload")):
             return 0
@@ -79,7 +79,7 @@ class Traffic:
     def _chance(self, probability: float) -> bool:
         return self._random.random() < probability
 
-    # what is handed to the controller
+    # frames and overload requests for the controller
 
     def _hand_over(self) -> None:
         if self._chance(0.5) and len(self._scene.waiting()) < MOST_WAITING:
@@ -113,13 +113,13 @@ class Traffic:
             self._contest(wire)
         elif kind < 0.8:
             self._scene.sending(frame, wire.place("ack"))
-            self._scene.play(self._random.choice(("1", "10", "1110")), "no acknowledgement")
+            self._scene.play(self._random.choice(("1", "10", "1110")), "no acknowledgment")
         else:
             self._scene.sending(frame, place)
             self._scene.play("f" if kind < 0.9 else "0", "another level on the bus")
 
     def _contest(self, own: Wire) -> None:
-        """A frame of the tester begins together with the controller's: who loses listens, and acknowledges."""
+        """A frame of the tester begins together with the controller's; the loser listens, and acknowledges."""
         text = self._frame()
         levels = Frame.parse(text).wire().levels
         differs = first_difference(levels, own.levels)

@@ -1,11 +1,11 @@
-/** A view as a link: what it shows, in the part of the page's address behind the #. */
+/** A view as a link: what it shows, in the part of the page's address after the #. */
 
 /** A longer address is not made: mail and chat cut it. */
 export const MOST_ADDRESS = 6000;
 
 /**
  * @param {string} text
- * @returns {Promise<string>} the text, packed, in letters that may stand in an address
+ * @returns {Promise<string>} the text, packed, in letters that an address may have
  */
 export async function packed(text) {
   const bytes = await through(new TextEncoder().encode(text), new CompressionStream('deflate-raw'));

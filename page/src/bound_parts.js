@@ -1,4 +1,4 @@
-/** What makes the bound of a message: the lines below its own in the answer of canplan --details. */
+/** The parts of the bound of a message: the lines below its own in the output of canplan --details. */
 
 const MESSAGE = /^(\S+ \S+ \S+ \S+) longest /;
 const LATEST = /^ {2}latest frame (\d+) /;
@@ -7,26 +7,26 @@ const PART = /^ {2}(jitter|blocking|earlier frames|before frames|hits|wire|less 
 
 /**
  * @typedef {object} Part of a bound
- * @property {string} kind the first of its words in the answer
- * @property {number | null} count how many frames or hits it is, where they are counted
+ * @property {string} kind the first of its words in the output
+ * @property {number | null} count the number of frames or hits, if they are counted
  * @property {number} bits how long it is, in bit times
- * @property {string} frame of the message before this one, where it is of one, with its DLC; else empty
+ * @property {string} frame of the message with higher priority, with its DLC, if it is of one; otherwise empty
  * @property {string} name of that message, or empty
  */
 
 /**
- * @typedef {object} Makings what makes the bound of a message
+ * @typedef {object} Makings the parts of the bound of a message
  * @property {number} latest which frame of the busy period is the latest, counted from 0
- * @property {Part[]} parts in the order of the answer
- * @property {number} later how many bit times behind the first frame of the busy period the latest one is released: they are taken away
- * @property {string} times bound, deadline and what is left in microseconds, as the answer has them; empty where it has none
+ * @property {Part[]} parts in the order of the output
+ * @property {number} later how many bit times after the first frame of the busy period the latest one is released: they are subtracted
+ * @property {string} times bound, deadline and slack in microseconds, as the output has them; empty if it has none
  */
 
 /**
  * The lines below that of a message.
  * @param {string} answer
  * @param {string} frame of the message, with its DLC
- * @returns {string[]} none where it has no bound
+ * @returns {string[]} none if it has no bound
  */
 export function linesBelow(answer, frame) {
   const lines = answer.split('\n');

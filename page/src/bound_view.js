@@ -1,18 +1,18 @@
-/** What makes the bound of a message, as bars: all parts behind one another, and each with its number. */
+/** The parts of the bound of a message: a bar of all of them in a row, and each with its number. */
 import { html, svg } from './draw.js';
 import { counted } from './words.js';
 
 /** @typedef {import('./bound_parts.js').Makings} Makings */
 /** @typedef {import('./bound_parts.js').Part} Part */
 
-/** What a part is called, by its kind. @type {Readonly<Record<string, (part: Part) => Array<Node | string>>>} */
+/** The name of a part, by its kind. @type {Readonly<Record<string, (part: Part) => Array<Node | string>>>} */
 const NAMES = Object.freeze({
-  jitter: () => ['Jitter, from its release to its offer'],
-  blocking: () => ['A frame behind it in arbitration that has begun'],
-  earlier: ({ count }) => [`${counted(count, 'frame')} of its own before the latest`],
+  jitter: () => ['Jitter, from its release until it is offered'],
+  blocking: () => ['Blocking by a lower-priority frame on the bus'],
+  earlier: ({ count }) => [`${counted(count, 'frame')} of this message before the latest`],
   before: ({ count, frame, name }) => [`${counted(count, 'frame')} of `, html('span', { class: 'mono' }, [frame]), name === '' ? '' : ` ${name}`],
   hits: ({ count }) => [counted(count, 'hit')],
-  wire: () => ['Its own wire'],
+  wire: () => ['Its own frame'],
 });
 
 /**
@@ -24,31 +24,31 @@ export function makingsView({ frame, bound, deadline, slack }, makings) {
   const parts = makings.parts.filter(({ bits }) => bits > 0);
   const words = [latestWords(makings), leftWords(deadline, slack), microsecondWords(makings)];
   return html('div', { class: 'makings' }, [
-    html('p', {}, [words.filter((told) => told !== '').join(' ')]),
+    html('p', {}, [words.filter((part) => part !== '').join(' ')]),
     stackOf(parts, sum, makings.later, deadline),
-    html('ul', { 'aria-label': `What makes the bound of ${frame}` }, parts.map((part) => itemOf(part, sum))),
+    html('ul', { 'aria-label': `Parts of the bound of ${frame}` }, parts.map((part) => itemOf(part, sum))),
   ]);
 }
 
 /** @param {Makings} makings */
 function latestWords({ latest, later }) {
-  if (latest === 0) return 'The first frame of the busy period is the latest.';
-  return `Frame ${latest + 1} of the busy period is the latest. It is released ${counted(later, 'bit time')} behind the first, at the first upright line, and what stands before that is no part of its bound.`;
+  if (latest === 0) return 'The first frame of the busy period has the longest response time.';
+  return `Frame ${latest + 1} of the busy period has the longest response time. It is released ${counted(later, 'bit time')} after the first, at the first upright line. What is before that line is not part of its bound.`;
 }
 
-/** How much is left until the deadline. @param {number} deadline @param {number | null} slack none where it is late */
+/** The slack before the deadline. @param {number} deadline @param {number | null} slack none if it is late */
 function leftWords(deadline, slack) {
-  if (slack === null) return 'It may end behind its deadline.';
-  return `${counted(slack, 'bit time')} of its deadline ${slack === 1 ? 'is' : 'are'} left, ${Math.floor((100 * slack) / Math.max(deadline, 1))} %.`;
+  if (slack === null) return 'It may miss its deadline.';
+  return `The slack is ${counted(slack, 'bit time')}, ${Math.floor((100 * slack) / Math.max(deadline, 1))} % of the deadline.`;
 }
 
-/** The same in microseconds, where there is a rate. @param {Makings} makings */
+/** Bound, deadline and slack in microseconds, if there is a bit rate. @param {Makings} makings */
 function microsecondWords({ times }) {
   return times === '' ? '' : `In microseconds: ${times.replace(/ ok$/, '').replace(/ (?=deadline|slack|late)/g, ', ')}.`;
 }
 
 /**
- * The parts behind one another, with an upright line at the release of the latest frame, where others are released before, and one at its deadline.
+ * The parts in a row, with an upright line at the release of the latest frame, if others are released before it, and one at its deadline.
  * @param {Part[]} parts
  * @param {number} sum of them
  * @param {number} released

@@ -14,17 +14,17 @@ import { formOf, textOf } from './scenario_text.js';
 import { counted } from './words.js';
 import { latestOf, worstCaseWords } from './worst_case.js';
 
-/** A picture of more bit times of ports is not drawn, and a longer report not shown but downloaded. */
+/** A picture with more bit times of ports is not drawn, and a longer report is not shown, only downloaded. */
 const MOST_PORT_TIMES = 8000000;
 const MOST_SHOWN = 100000;
 
-/** So long, in milliseconds, until the bit time is told again while ports come. */
+/** How often, in milliseconds, the bit time is shown again while ports come. */
 const TOLD_EACH = 200;
 
 const LEVEL_WORDS = ['dominant', 'recessive'];
 
 /** The names of the columns of the ports in a bit time. */
-const COLUMNS = ['Phase', 'Part', 'Drives', 'Sees', 'TEC', 'REC', 'What comes'];
+const COLUMNS = ['Phase', 'Part', 'Drives', 'Sees', 'TEC', 'REC', 'Event'];
 
 export class BusView extends DocumentView {
   /**
@@ -150,7 +150,7 @@ export class BusView extends DocumentView {
     if (from !== undefined && span !== undefined) this.picture.view(from, span);
   }
 
-  /** The port that is to come next: one in view, or else the first. @param {BusTimes} bus */
+  /** The port that is to come next: one in view, or otherwise the first. @param {BusTimes} bus */
   nextPort(bus) {
     bus.asked ??= new Set();
     const node = [...this.picture.inView, ...bus.ports.keys()].find((each) => !bus.asked.has(each));
@@ -202,7 +202,7 @@ export class BusView extends DocumentView {
     byId('bus-picture').focus({ preventScroll: true });
   }
 
-  /** Tells the bit time that is picked once more as ports come: at once where they are all there, and else now and then. */
+  /** Shows the picked bit time again as ports come: at once if all are there, otherwise now and then. */
   tellSoon() {
     if (this.waits) return;
     this.waits = true;
@@ -216,7 +216,7 @@ export class BusView extends DocumentView {
     const level = LEVEL_WORDS[this.bus.levels[this.picked]];
     const hit = this.bus.isHit(this.picked) ? ', disturbed' : '';
     const events = this.bus.ports.flatMap((port, node) => (port && comesTo(port, this.picked) ? [`port ${node}: ${comesTo(port, this.picked)}`] : []));
-    const awaited = this.bus.awaited > 0 ? ` (${counted(this.bus.awaited, 'port')} being worked out)` : '';
+    const awaited = this.bus.awaited > 0 ? ` (${counted(this.bus.awaited, 'port')} being computed)` : '';
     byId('bus-time').textContent = `Bit time ${this.picked.toLocaleString('en')}: ${level}${hit}${events.length ? `; ${events.join(', ')}` : ''}${awaited}`;
     byId('bus-rows').replaceChildren(...this.bus.ports.flatMap((port, node) => (port ? [this.portRow(port, node)] : [])));
   }
@@ -230,21 +230,21 @@ export class BusView extends DocumentView {
     return html('tr', {}, [html('th', { scope: 'row' }, [html('span', { class: `swatch does-${does}` }), `Port ${node}`]), ...cells.map((cell, column) => html('td', { 'data-name': COLUMNS[column] }, [cell]))]);
   }
 
-  /** The next bit time in which anything comes to a port or a disturbance falls, or else the first. */
+  /** The next bit time with an event of a port or a hit, or otherwise the first. */
   nextEvent() {
     if (this.bus?.count) this.pick(this.bus.eventBehind(this.picked) ?? this.bus.eventBehind(-1) ?? this.picked);
   }
 
-  /** The last such bit time before this one, or else the last of all. */
+  /** The last such bit time before this one, or otherwise the last of all. */
   previousEvent() {
     if (this.bus?.count) this.pick(this.bus.eventBefore(this.picked) ?? this.bus.eventBefore(Infinity) ?? this.picked);
   }
 
   async copy() {
-    byId('bus-copied').textContent = (await copyText(this.report.text)) ? 'Copied.' : 'This browser does not let the page copy.';
+    byId('bus-copied').textContent = (await copyText(this.report.text)) ? 'Copied.' : 'This browser does not allow the page to copy.';
   }
 
-  /** What the view shows, for an address; nothing where that is long. */
+  /** What the view shows, for an address; nothing if that is too long. */
   async what() {
     if (this.document.isLong) return null;
     const { from, span } = this.picture;
@@ -260,7 +260,7 @@ export class BusView extends DocumentView {
   }
 }
 
-/** What a bit time brings to a port, in words. */
+/** The event of a port in a bit time, in words. */
 function comesTo(port, time) {
   const brought = BROUGHT_WORDS[port.brought(time)];
   return port.isStart(time) && port.isSender(time) ? ['begins its frame', brought].filter(Boolean).join(', ') : brought;

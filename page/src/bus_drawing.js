@@ -1,4 +1,4 @@
-/** What the picture of a bus is drawn of: levels as lines, bands, fields, arrows and counters, each as far as it is in view. */
+/** What the picture of a bus is drawn of: levels as lines, bands, fields, arrows and counters, each as far as it is visible. */
 import { svg } from './draw.js';
 import { DOES, firstFrom } from './bus_times.js';
 import { DOES_WORDS } from './bus_words.js';
@@ -7,7 +7,7 @@ import { FIELDS } from './words.js';
 
 /** @typedef {import('./core.js').Marks} Marks */
 
-/** Levels and fields are drawn where each level has so many pixels. */
+/** Levels and fields are drawn if a level has at least this many pixels. */
 const LEVEL_ROOM = 3;
 
 /** The heights of a band of fields and of their levels below it, how far lines of a hatch are apart, and the width of a letter. */
@@ -16,18 +16,18 @@ const LEVEL_BAND = 22;
 const HATCH = 5;
 const LETTER = 7.3;
 
-/** What is in view: bit times from one on, over so many pixels. */
+/** What is in view: the bit times from one on, and the pixels that they have. */
 export class Scale {
   constructor(from, span, width) { Object.assign(this, { from, span, width }); }
 
   get end() { return this.from + this.span; }
 
-  /** Whether single levels have room. */
+  /** Whether there is space for single levels. */
   get isNear() { return this.width / this.span >= LEVEL_ROOM; }
 
   x(time) { return Math.round(((time - this.from) / this.span) * this.width * 10) / 10; }
 
-  /** The bit time at so many pixels. */
+  /** The bit time at a pixel. */
   timeAt(x) { return this.from + (x / this.width) * this.span; }
 
   /** A bit time's left end, or that of the view. */
@@ -37,13 +37,13 @@ export class Scale {
 }
 
 /**
- * A line over the levels in view; where they have no room, the stretches in which a dominant one stands.
+ * A line over the levels in view; if there is no space for them, the pixels with a dominant one.
  * @param {Scale} scale
  * @param {number} count of levels
  * @param {(time: number) => number} level
  * @param {number} high
  * @param {number} low
- * @param {Uint32Array} [dominant] how many dominant levels stand before each, where the view may be so far away
+ * @param {Uint32Array} [dominant] the number of dominant levels before each, if the view may be that far away
  */
 export function wave(scale, count, level, high, low, dominant) {
   const start = Math.floor(scale.from);
@@ -66,7 +66,7 @@ function dense(scale, dominant, end, high, low) {
   return path;
 }
 
-/** What a port does: a path for each kind, and a word where it has room. */
+/** What a port does: a path for each kind, and a word if there is space. */
 export function bands(scale, port, y, height) {
   const paths = DOES.map(() => '');
   const words = [];
@@ -90,7 +90,7 @@ export function bands(scale, port, y, height) {
 }
 
 /**
- * The fields of the frames in view as the port hears them, where levels have room.
+ * The fields of the frames in view as the port receives them, if there is space for levels.
  * @param {Scale} scale
  * @param {import('./bus_times.js').PortTimes} port
  * @param {number} y
@@ -175,7 +175,7 @@ export function arrows(scale, times, y, name) {
   return path ? [svg('path', { class: name, d: path, 'data-times': shown.slice(0, 200).join(' ') })] : [];
 }
 
-/** The counters at the left, and where they move: of moves that have no room the last, behind the one before it. */
+/** The counters at the left, and their changes: of changes without space only the last, after the one before it. */
 export function counters(scale, port, y) {
   const told = [];
   let free = 0;

@@ -1,16 +1,16 @@
-/** The ports behind the run, one under another and folded, with their logs. */
+/** The ports after the run, one below another and folded, with their logs. */
 import { BROUGHT } from './bus_times.js';
 import { byId, html } from './draw.js';
 import { counted } from './words.js';
 
-/** So many entries of a log are shown at first, and so many more each time. */
+/** The number of entries of a log that are shown at first; each time ten times this number is added. */
 const SHOWN = 50;
 
 const KIND = Object.freeze({ sent: BROUGHT.sent, took: BROUGHT.received });
 const WORDS = Object.freeze({ sent: 'sent', took: 'received' });
 
 export class EndView {
-  /** @param {(time: number, node: number) => void} onPick told of the bit time of an entry */
+  /** @param {(time: number, node: number) => void} onPick gets the bit time of an entry */
   constructor(onPick) {
     this.room = byId('bus-ends');
     this.onPick = onPick;
@@ -39,35 +39,35 @@ export class EndView {
     return port;
   }
 
-  /** Tells the times of a port's entries, which have come meanwhile. */
+  /** Shows the times of a port's entries, which are known now. */
   refresh(node) {
     const port = this.room.children[node];
     if (port?.open) this.fill(node, Math.max(port.querySelectorAll('li').length, SHOWN));
   }
 
-  /** Shows so many entries of a port's log. */
+  /** Shows this many entries of a port's log. */
   fill(node, count) {
     const { first, entries, missed } = this.report.end(node);
     const shown = Math.min(count, entries);
     const items = Array.from({ length: shown }, (_, entry) => this.entryOf(node, entry, this.report.line(first + entry)));
-    const told = [];
+    const notes = [];
     if (shown < entries) {
-      told.push(html('p', {}, [`Shown are ${shown.toLocaleString('en')} of ${counted(entries, 'entry', 'entries')}; all stand in the report, which can be downloaded below. `,
+      notes.push(html('p', {}, [`Shown are ${shown.toLocaleString('en')} of ${counted(entries, 'entry', 'entries')}; all are in the report, which can be downloaded below. `,
         html('button', { type: 'button', 'data-node': node, 'data-more': shown + 10 * SHOWN }, [`Show ${10 * SHOWN} more`])]));
     }
-    if (missed !== '0') told.push(html('p', {}, [`The log had no room for ${missed} more.`]));
-    if (entries === 0 && missed === '0') told.push(html('p', {}, ['Nothing was sent or received.']));
-    this.room.children[node].querySelector('.log').replaceChildren(html('ol', { 'aria-label': `Log of port ${node}` }, items), ...told);
+    if (missed !== '0') notes.push(html('p', {}, [`The log had no space for ${missed} more.`]));
+    if (entries === 0 && missed === '0') notes.push(html('p', {}, ['Nothing was sent or received.']));
+    this.room.children[node].querySelector('.log').replaceChildren(html('ol', { 'aria-label': `Log of port ${node}` }, items), ...notes);
   }
 
-  /** An entry, with the bit time at which its frame has ended, where that is told. */
+  /** An entry, with the bit time at which its frame ended, if that is known. */
   entryOf(node, entry, line) {
     const kind = line.slice(0, 4);
     const frame = line.slice(5);
     const port = this.bus?.ports[node];
     const time = port?.heard[entry];
-    const isTold = time !== undefined && port.brought(time) === KIND[kind];
-    const where = isTold ? [html('button', { type: 'button', class: 'link', 'data-time': time, 'data-node': node }, [`Bit time ${time.toLocaleString('en')}`]), ' '] : [];
+    const isKnown = time !== undefined && port.brought(time) === KIND[kind];
+    const where = isKnown ? [html('button', { type: 'button', class: 'link', 'data-time': time, 'data-node': node }, [`Bit time ${time.toLocaleString('en')}`]), ' '] : [];
     return html('li', {}, [...where, `${WORDS[kind]} `, html('code', {}, [frame])]);
   }
 }

@@ -4,7 +4,7 @@ import { Scale, arrows, axis, bands, counters, fieldBands, wave } from './bus_dr
 
 /** @typedef {import('./core.js').Marks} Marks */
 
-/** Sizes in pixels, of rows with levels, without room for them, and folded; and how few bit times fill the width at most. */
+/** Sizes in pixels, of rows with levels, without space for them, and folded; and the least number of bit times that fill the width. */
 const AXIS = 18;
 const HEAD = 52;
 const NEAR = 80;
@@ -20,7 +20,7 @@ export class BusPicture {
   /**
    * @param {HTMLElement} room
    * @param {(levels: Uint8Array) => Marks} marks
-   * @param {(time: number) => void} onPick told of the bit time that is picked
+   * @param {(time: number) => void} onPick gets the bit time that is picked
    */
   constructor(room, marks, onPick) {
     Object.assign(this, { room, marks, onPick });
@@ -33,9 +33,9 @@ export class BusPicture {
     /** @type {Set<number>} the ports whose rows are folded */
     this.folded = new Set();
     this.waits = false;
-    /** Whether levels have room, as it was drawn. */
+    /** Whether there was space for levels when it was drawn. */
     this.isNear = true;
-    // what is asked of the browser each time would have it lay the page out each time
+    // asking the browser each time would make it lay out the page each time
     Object.assign(this, { width: 0, seen: 0, scrolled: 0 });
     this.head = svg('svg', { class: 'bus head', 'aria-hidden': 'true' });
     this.body = svg('svg', { class: 'bus body', 'aria-hidden': 'true' });
@@ -54,14 +54,14 @@ export class BusPicture {
 
   get total() { return Math.max(FEWEST, this.bus?.count ?? 0); }
 
-  /** Shows so many bit times from one on, as far as there are any. */
+  /** Shows this many bit times from one on, as far as there are any. */
   view(from, span) {
     this.span = Math.min(Math.max(span, FEWEST), this.total);
     this.from = Math.min(Math.max(from, 0), this.total - this.span);
     this.drawSoon();
   }
 
-  /** Zooms with what is at a share of the width held there. */
+  /** Zooms; what is at this share of the width stays there. */
   zoomAt(factor, share) {
     const span = Math.min(Math.max(this.span * factor, FEWEST), this.total);
     this.view(this.from + (this.span - span) * share, span);
@@ -111,7 +111,7 @@ export class BusPicture {
     this.drawSoon();
   }
 
-  /** Draws a port that has come, where it is in view. */
+  /** Draws a port that has come, if it is in view. */
   come(node) { if (this.inView.includes(node)) this.drawSoon(); }
 
   height(node) { return this.folded.has(node) ? FOLDED : this.unfolded; }
@@ -213,7 +213,7 @@ export class BusPicture {
   }
 
   /**
-   * Lets rows be as high as there is room for levels, and holds the one that stands at the top there.
+   * Makes rows high enough for levels, if there is space for these, and keeps the top row at the top.
    * @param {boolean} isNear
    * @returns {boolean} whether they have changed
    */
@@ -230,7 +230,7 @@ export class BusPicture {
     picture.replaceChildren(...inside);
   }
 
-  /** What stands beside the names. */
+  /** What is beside the names. */
   plotOf(scale, y, height, inside) { return svg('svg', { x: this.names, y, width: scale.width, height }, inside); }
 
   name(text, y) { return svg('text', { class: 'port-name', x: 6, y }, [text]); }
@@ -240,13 +240,13 @@ export class BusPicture {
     return svg('rect', { class: 'cursor', x: left, y: top, width: Math.max(scale.x(this.picked + 1) - left, 1), height: bottom - top, 'data-time': this.picked });
   }
 
-  /** The recorded levels, and the disturbances of the wire. */
+  /** The recorded levels, and the hits on the bus. */
   levelRow(scale) {
     const { levels, hits, count, dominant } = this.bus;
     return [svg('g', { class: 'row levels' }, [wave(scale, count, (time) => levels[time], AXIS + 10, HEAD - 6, dominant), ...arrows(scale, hits, AXIS + 9, 'hit')])];
   }
 
-  /** A port: its number, what it does, and unfolded the fields, what it drives, and its counters as they move. */
+  /** A port: its number, what it does, and and if it is unfolded the fields, what it drives, and the changes of its counters. */
   row(scale, node, width) {
     const top = this.top(node);
     const height = this.height(node);
@@ -254,7 +254,7 @@ export class BusPicture {
     const folded = this.folded.has(node);
     return svg('g', { class: `row port${node === this.node ? ' here' : ''}`, 'data-node': node, 'data-folded': folded }, [
       svg('rect', { class: 'row-ground', x: 0, y: top, width, height }), this.name(`${folded ? '▸' : '▾'} Port ${node}`, top + 17),
-      this.plotOf(scale, top, height, port ? this.portParts(scale, port, folded) : [svg('text', { class: 'place', x: 4, y: 17 }, ['being worked out'])]),
+      this.plotOf(scale, top, height, port ? this.portParts(scale, port, folded) : [svg('text', { class: 'place', x: 4, y: 17 }, ['being computed'])]),
     ]);
   }
 

@@ -1,4 +1,4 @@
-/** What the ports of a scenario do, bit time by bit time, as the proved code tells it. */
+/** What the ports of a scenario do, bit time by bit time, as the proved code reports it. */
 import { TIME_BYTES } from './core.js';
 
 /** What a port does in a bit time, in the order in which the picture's key names it. */
@@ -7,21 +7,21 @@ export const DOES = Object.freeze(['idle', 'sending', 'receiving', 'flag', 'pass
 const SENDING = DOES.indexOf('sending');
 const RECEIVING = DOES.indexOf('receiving');
 
-/** The phases in a frame, behind its start, by their numbers (`specs/Plain.antt` of can_page). */
+/** The phases in a frame, after its start, by their numbers (`specs/Plain.antt` of can_page). */
 const FIRST_IN_FRAME = 2;
 const LAST_IN_FRAME = 6;
 
-/** What a port does, as the place in DOES, by the number of its phase; in a frame it is told by its part. */
+/** What a port does, as the place in DOES, by the number of its phase; in a frame its part decides. */
 const KINDS = Uint8Array.from(
   ['joining', 'idle', '', '', '', '', '', 'flag', 'passive', 'overload', 'delimiter', 'delimiter', 'intermission', 'suspend', 'off'], (name) => DOES.indexOf(name),
 );
 
-/** The numbers of what a bit time brings. */
+/** The numbers of the events of a bit time. */
 export const BROUGHT = Object.freeze({ sent: 1, received: 2, lost: 3, firstError: 4, lastError: 8, overload: 9, off: 10, recovered: 11 });
 
 /**
- * Where what a port does changes, where a counter does, where something comes to it, and where it alone sees the opposite.
- * @param {Uint8Array} times what the proved code tells of it
+ * The bit times in which a port changes what it does, in which a counter changes, which have an event, and in which it alone sees the opposite level.
+ * @param {Uint8Array} times what the proved code reports of it
  * @param {Uint8Array} levels those that are recorded
  */
 export function indexOf(times, levels) {
@@ -85,7 +85,7 @@ export class PortTimes {
   /** @param {number} time @returns {number} the stretch in which it does one thing */
   runAt(time) { return firstFrom(this.starts, time + 1) - 1; }
 
-  /** Whether it is in a frame, behind its start. */
+  /** Whether it is in a frame, after its start. */
   isInFrame(time) { return time < this.count && this.stage(time) >= FIRST_IN_FRAME && this.stage(time) <= LAST_IN_FRAME; }
 
   /** Whether a frame begins here: its phase is the one before, and the next one is in the frame. */
@@ -101,9 +101,9 @@ export class PortTimes {
   }
 
   /**
-   * The frame, as far as it is heard, that is on the bus for this port.
+   * The frame that is on the bus for this port, as far as it has been received.
    * @param {number} time
-   * @returns {[number, number] | null} its start and what is behind it
+   * @returns {[number, number] | null} its start and the bit time after it
    */
   frameAt(time) {
     let run = this.runAt(time);
@@ -132,7 +132,7 @@ export class BusTimes {
     /** @type {Array<PortTimes | null>} */
     this.ports = Array.from({ length: count }, () => null);
     this.driven = new Uint8Array(levels.length).fill(1);
-    /** How many dominant levels stand before each. */
+    /** The number of dominant levels before each. */
     this.dominant = new Uint32Array(levels.length + 1);
     for (let time = 0; time < levels.length; time += 1) this.dominant[time + 1] = this.dominant[time] + 1 - levels[time];
     this.hits = new Uint32Array();
@@ -163,10 +163,10 @@ export class BusTimes {
   /** @param {number} time */
   isHit(time) { return this.hits[firstFrom(this.hits, time)] === time; }
 
-  /** Where something comes to a port or is disturbed. */
+  /** The bit times with an event of a port or a hit. */
   get events() { return [this.hits, ...this.known.flatMap((port) => [port.marks, port.blind])]; }
 
-  /** @param {number} time @returns {number | undefined} the next event behind it */
+  /** @param {number} time @returns {number | undefined} the next event after it */
   eventBehind(time) {
     const next = this.events.map((times) => times[firstFrom(times, time + 1)]).filter((found) => found !== undefined);
     return next.length > 0 ? Math.min(...next) : undefined;

@@ -1,4 +1,4 @@
-/** What a port does, what a bit time brings and what is wrong in a scenario, in words. */
+/** What a port does, the events of a bit time, and what is wrong in a scenario, in words. */
 
 /** @type {Readonly<Record<string, {short: string, name: string}>>} by the names of DOES */
 export const DOES_WORDS = Object.freeze({
@@ -8,7 +8,7 @@ export const DOES_WORDS = Object.freeze({
   flag: { short: 'error flag', name: 'active error flag' },
   passive: { short: 'passive flag', name: 'passive error flag' },
   overload: { short: 'overload flag', name: 'overload flag' },
-  delimiter: { short: 'delimiter', name: 'delimiter behind a flag' },
+  delimiter: { short: 'delimiter', name: 'delimiter after a flag' },
   intermission: { short: 'intermission', name: 'intermission' },
   suspend: { short: 'suspend', name: 'suspend transmission' },
   joining: { short: 'joining', name: 'joining the bus' },
@@ -18,15 +18,15 @@ export const DOES_WORDS = Object.freeze({
 /** By the numbers of phases. */
 export const STAGES = Object.freeze([
   'joining', 'idle', 'stuffed part of a frame', 'CRC delimiter', 'ACK slot', 'ACK delimiter', 'end of frame', 'active error flag', 'passive error flag',
-  'overload flag', 'behind a flag', 'delimiter', 'intermission', 'suspend transmission', 'bus off',
+  'overload flag', 'after a flag', 'delimiter', 'intermission', 'suspend transmission', 'bus off',
 ]);
 
-/** By the numbers of what a bit time brings. */
+/** By the numbers of the events of a bit time. */
 export const BROUGHT_WORDS = Object.freeze([
   '', 'frame sent', 'frame received', 'arbitration lost', 'bit error', 'stuff error', 'CRC error', 'form error', 'ACK error', 'overload flag begins', 'goes bus off', 'back from bus off',
 ]);
 
-/** The numbers of the fields of which more is told. */
+/** The numbers of the fields about which more is shown. */
 export const WRONG = Object.freeze({ toml: 0, key: 1, portKey: 6, element: 8 });
 
 const AT_TOP = ['toml', 'key', 'version', 'bits', 'port'];

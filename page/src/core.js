@@ -10,24 +10,24 @@ export const MOST_BYTES = 10 * 1024 * 1024;
 const MOST_LEVELS = 157;
 const MOST_TEXT = 32;
 
-/** A fault of a text lies within its first 32 bytes, so a longer text has the same answer as so much of it. */
+/** A fault of a text is within its first 32 bytes, so a longer text has the same answer as these bytes. */
 const MOST_LOOKED_AT = 4096;
 
 /** The room for lines (`Lines` of can_page): their count, a flag, and the bytes. */
 const LINE_BYTES = 33554432;
 const LINES_FRONT = 9;
 
-/** What is told of a port in a bit time (`PlainTime` of can_page), and of a wrong document (`WrongField`). */
+/** The bytes that describe a port in a bit time (`PlainTime` of can_page), and of a wrong document (`WrongField`). */
 export const TIME_BYTES = 10;
 const WRONG_BYTES = 24;
 
-/** So many bit times of ports are told at once: a scenario has half as many bit times, so those of a port always are. */
+/** The most bit times of ports in one call: a scenario has at most half of it, so those of one port always fit. */
 export const MOST_TIMES = 2000000;
 
-/** No document is longer that the page takes. */
+/** The most bytes of a document that the page takes. */
 export const MOST_DOCUMENT = 1024 * 1024;
 
-/** What a call answers (`Answer` of can_page). */
+/** What a call returns (`Answer` of can_page). */
 export const ANSWER = Object.freeze({
   done: 0, noRoom: 1, badLevel: 2, badIdentifier: 3, badDlc: 4, badCount: 5, badScenario: 6, noPort: 7, noMemory: 8, badPlan: 9, noMessage: 10,
   letter: 11, identifier: 12, direction: 13, dlc: 14, data: 15, trailing: 16, tooLong: 17,
@@ -50,12 +50,12 @@ export const ANSWER = Object.freeze({
  */
 
 /**
- * @typedef {object} Marks what levels are, as far as anything is told of them
+ * @typedef {object} Marks the fields of levels, as far as they are known
  * @property {Uint8Array} fields the number of each level's field
- * @property {Uint8Array} stuffed 1 where a level is a stuff bit
+ * @property {Uint8Array} stuffed 1 for a stuff bit, otherwise 0
  */
 
-/** Where everything stands in the module's memory. */
+/** The layout of the module's memory. */
 class Rooms {
   /** @param {number} base */
   constructor(base) {
@@ -85,7 +85,7 @@ class Rooms {
 }
 
 /**
- * The calls of a module. None may follow one that did not end, which leaves its memory half written.
+ * The calls of a module. After a call that did not end, which leaves its memory half written, there may be no other.
  * @param {WebAssembly.Exports} exports
  */
 function guarded(exports) {
@@ -116,7 +116,7 @@ export class Core {
 
   /**
    * @param {BufferSource} bytes the module
-   * @returns {Promise<Core | null>} none where the browser knows no such WebAssembly
+   * @returns {Promise<Core | null>} none if the browser does not support this WebAssembly
    */
   static async load(bytes) {
     if (typeof WebAssembly !== 'object' || !WebAssembly.validate(bytes)) return null;
@@ -138,7 +138,7 @@ export class Core {
   /**
    * @param {number} at
    * @param {number} count
-   * @returns {Uint8Array} a copy of what stands there
+   * @returns {Uint8Array} a copy of the bytes there
    */
   copy(at, count) {
     return this.memory.slice(at, at + count);
@@ -146,7 +146,7 @@ export class Core {
 
   /**
    * @param {number} at
-   * @returns {number} the number of 64 bits that stands there
+   * @returns {number} the number of 64 bits there
    */
   number(at) {
     return Number(this.view.getBigUint64(at, true));
@@ -167,7 +167,7 @@ export class Core {
   }
 
   /**
-   * The levels that the sender of a frame drives, by the frame's text; or the place of the text's fault.
+   * The levels that the transmitter of a frame drives, for the frame's text; or the place of the text's fault.
    * @param {Uint8Array} text
    * @returns {{answer: number, place: number, levels: Uint8Array}}
    */
@@ -180,7 +180,7 @@ export class Core {
   }
 
   /**
-   * What levels are that begin with a start of frame: at most 157 of them, and none behind the frame or a wrong stuff
+   * What levels are that begin with a start of frame: at most 157 of them, and none after the frame or a wrong stuff
    * bit.
    * @param {Uint8Array} levels
    * @returns {Marks}
@@ -192,7 +192,7 @@ export class Core {
   }
 
   /**
-   * Of how many of these levels it is told what they are.
+   * How many of these levels have a known field.
    * @param {Uint8Array} levels
    * @returns {number}
    */
@@ -205,7 +205,7 @@ export class Core {
   }
 
   /**
-   * The levels of a trace, and the lines of the frames and faults in it. Where a byte of the text is no level, `place`
+   * The levels of a trace, and the lines of the frames and faults in it. If a byte of the text is no level, `place`
    * is its place, and the rest is that of the levels before it.
    * @param {Uint8Array} text at most MOST_BYTES
    * @returns {{answer: number, place: number, levels: Uint8Array, lines: Uint8Array}}
@@ -236,7 +236,7 @@ export class Core {
   /**
    * The answer to the network that a document says, and how many of its messages are late; or the first field that is wrong.
    * @param {Uint8Array} text at most MOST_DOCUMENT
-   * @param {boolean} [details] whether it tells what makes each bound
+   * @param {boolean} [details] whether it has the parts of each bound
    * @returns {{answer: number, wrong: WrongField, late: number, lines: Uint8Array}}
    */
   plan(text, details = false) {
@@ -251,7 +251,7 @@ export class Core {
    * The worst case of a message, as a scenario, in the network that a document says; or the first field that is wrong. No name
    * of a message is as long as a frame text, so a longer one has the same answer as so much of it.
    * @param {Uint8Array} text at most MOST_DOCUMENT
-   * @param {Uint8Array} name a frame's text up to the blank before its DLC
+   * @param {Uint8Array} name a frame's text before the space and the DLC
    * @returns {{answer: number, wrong: WrongField, scenario: Uint8Array}}
    */
   worstCase(text, name) {
@@ -262,7 +262,7 @@ export class Core {
     return { answer, wrong: this.wrong(), scenario: this.answered(answer) };
   }
 
-  /** @returns {WrongField} what a call has told */
+  /** @returns {WrongField} what a call has reported */
   wrong() {
     const at = this.rooms.wrong;
     return { number: this.number(at), element: this.number(at + 8), field: this.view.getUint8(at + 16) };
@@ -289,7 +289,7 @@ export class Core {
   }
 
   /**
-   * What each port of a scenario does in each bit time, port behind port; there is room for MOST_TIMES in all.
+   * What each port of a scenario does in each bit time, port after port; there is space for MOST_TIMES in all.
    * @param {Uint8Array} text
    * @returns {{answer: number, times: Uint8Array}}
    */

@@ -17,13 +17,13 @@ const EXAMPLE = `11111111111
 000001000001001001000001001111100000110 1011111111 111
 `;
 
-/** So many findings stand on one page of the list. */
+/** The number of findings on one page of the list. */
 const PAGE = 50;
 
-/** A longer text is kept, and not put into the field. */
+/** A text longer than this is kept, and not put into the field. */
 const MOST_TYPED = 200000;
 
-/** So many levels behind a fault are shown with it. */
+/** The number of levels after a fault that are shown with it. */
 const BEHIND = 12;
 
 export class DecodeView {
@@ -67,7 +67,7 @@ export class DecodeView {
     });
   }
 
-  /** @param {HTMLElement} panel where files may be dropped */
+  /** @param {HTMLElement} panel onto which files may be dropped */
   listenToDrops(panel) {
     panel.addEventListener('dragover', (event) => {
       if (!event.dataTransfer.types.includes('Files')) return;
@@ -111,7 +111,7 @@ export class DecodeView {
     }
   }
 
-  /** @param {Uint8Array | null} bytes none where there are too many */
+  /** @param {Uint8Array | null} bytes none if there are too many */
   show(bytes) {
     if (!bytes || bytes.length > MOST_BYTES) {
       this.clear(`The trace is too long: this page takes up to ${counted(MOST_BYTES, 'byte')}. The program canbit decodes longer ones.`);
@@ -121,7 +121,7 @@ export class DecodeView {
     const began = performance.now();
     const { answer, place, levels, lines } = this.core.decode(bytes);
     if (answer === ANSWER.noRoom) {
-      this.clear('The answer is too long for this page. The program canbit has no such limit.');
+      this.clear('The output is too long for this page. The program canbit has no such limit.');
       return;
     }
     const findings = new Findings(lines);
@@ -138,7 +138,7 @@ export class DecodeView {
     else this.pickNone();
   }
 
-  /** What the view shows, for an address; nothing where that is long. */
+  /** What the view shows, for an address; nothing if that is too long. */
   async what() {
     if (this.bytes.length > MOST_TYPED) return null;
     const place = this.picked >= 0 ? { place: this.traced.findings.starts[this.picked] } : {};
@@ -184,7 +184,7 @@ export class DecodeView {
   }
 
   /**
-   * The place behind each finding's last level, asked of the proved code once each is drawn.
+   * The place after each finding's last level, asked of the proved code once each is drawn.
    * @param {Uint8Array} levels
    * @param {Findings} findings
    * @returns {(line: number) => number}
@@ -242,7 +242,7 @@ export class DecodeView {
     this.pick(this.picked + by);
   }
 
-  /** The next fault behind what is picked, or else the first. */
+  /** The next fault after the picked finding, or otherwise the first. */
   nextFault() {
     const { isFault } = this.traced.findings;
     const next = isFault.indexOf(1, this.picked + 1);
@@ -298,7 +298,7 @@ function foundWords(found) {
 }
 
 /**
- * The levels of a finding as a wire: those of a frame, or those up to the fault and some behind it.
+ * The levels of a finding as a wire: those of a frame, or those before and at the fault and some after it.
  * @param {import('./core.js').Core} core
  * @param {Uint8Array} levels
  * @param {import('./findings.js').Finding} found
@@ -322,8 +322,8 @@ function wireOf(core, levels, found, end) {
 function badByte(bytes, place) {
   const around = (from, to) => new TextDecoder('latin1').decode(bytes.subarray(Math.max(from, 0), to)).replaceAll('\n', ' ');
   return [
-    html('strong', {}, [`Byte ${place.toLocaleString('en')} is no level`]), ': 0, 1, a blank or a line end was expected. ',
+    html('strong', {}, [`Byte ${place.toLocaleString('en')} is no level`]), ': 0, 1, a space or a line end was expected. ',
     html('code', { class: 'excerpt' }, [around(place - 24, place), html('mark', {}, [around(place, place + 1)]), around(place + 1, place + 13)]),
-    ' Shown is what stands before it.',
+    ' The text before it is shown.',
   ];
 }

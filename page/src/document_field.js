@@ -5,10 +5,10 @@ import { counted } from './words.js';
 
 export class DocumentField {
   /**
-   * @param {{view: string, what: string, program: string, most: number}} of the view, whose name begins those of its elements; what the text
-   *   is called, and the program that answers it; how many letters the field takes, with more of which it would be slow
-   * @param {(text: string, how: {types?: boolean}) => void} onText told of a text, and whether it is typed
-   * @param {(why: Array<Node | string>) => void} onRefused told why there is none
+   * @param {{view: string, what: string, program: string, most: number}} of the view, whose name begins those of its elements; the name of
+   *   the text, and the program that reads it; the most letters of the field, which would be slow with more
+   * @param {(text: string, how: {types?: boolean}) => void} onText gets a text, and whether it is typed
+   * @param {(why: Array<Node | string>) => void} onRefused gets the reason why there is none
    */
   constructor({ view, what, program, most }, onText, onRefused) {
     Object.assign(this, { what, most, onText, onRefused, text: '' });
@@ -24,7 +24,7 @@ export class DocumentField {
   /** Whether the text is kept, and not put into the field. */
   get isLong() { return this.text.length > this.most; }
 
-  /** The bytes of the text; none where they are too many. @returns {Uint8Array | null} */
+  /** The bytes of the text; none if they are too many. @returns {Uint8Array | null} */
   get bytes() {
     const bytes = new TextEncoder().encode(this.text);
     return bytes.length > MOST_DOCUMENT ? null : bytes;
@@ -52,7 +52,7 @@ export class DocumentField {
   }
 
   /**
-   * Keeps a text, and shows it where it was not typed.
+   * Keeps a text, and shows it if it was not typed.
    * @param {string} text
    * @param {boolean} types
    */

@@ -1,4 +1,4 @@
-/** What the views of documents have in common: a document is picked, typed or opened, and is answered, or told wrong. */
+/** What the views of documents have in common: a document is picked, typed or opened, and its result or its fault is shown. */
 import { DocumentField } from './document_field.js';
 import { byId, html, painted } from './draw.js';
 
@@ -6,7 +6,7 @@ import { byId, html, painted } from './draw.js';
 
 /**
  * A view has a form beside the text (`form`), and says how a text fills it (`formOf`), what is done with the bytes of a text
- * (`answer`), what is wrong in it (`faultIn`), and what goes where nothing is shown (`forget`).
+ * (`answer`), what is wrong in it (`faultIn`), and what to clear when nothing is shown (`forget`).
  */
 export class DocumentView {
   /**
@@ -46,7 +46,7 @@ export class DocumentView {
 
   /**
    * Fills the form in once the text is seen, and waits until the form is too: a browser lays out each of them, and the
-   * answer behind them, in a task of its own.
+   * answer after them, in a task of its own.
    * @param {string} text
    */
   async fillForm(text) {
@@ -58,7 +58,7 @@ export class DocumentView {
     await painted();
   }
 
-  /** Waits until the form is seen; whether nothing else was asked meanwhile. */
+  /** Waits until the form is seen; whether nothing else was asked in the meantime. */
   async isFilled() {
     const { number } = this.runs;
     await this.filled;
@@ -86,7 +86,7 @@ export class DocumentView {
     }
   }
 
-  /** Tells what is wrong, where it stands, and what may stand there. @param {WrongField} wrong */
+  /** Shows what is wrong, its place, and what is allowed there. @param {WrongField} wrong */
   refuseField(wrong) {
     const { code, place, inside, why } = this.faultIn(wrong);
     this.form.mark(code);
@@ -97,7 +97,7 @@ export class DocumentView {
 
   /**
    * @param {Array<Node | string>} why nothing is shown
-   * @param {string} [told] the same in short
+   * @param {string} [told] the same, shorter
    */
   refuse(why, told = '') {
     this.runs.number += 1;

@@ -2,7 +2,7 @@
 
 const SVG = 'http://www.w3.org/2000/svg';
 
-/** What of a computed style a picture needs that stands alone. */
+/** The computed styles that a picture in a file of its own needs. */
 const STYLES = ['fill', 'fill-opacity', 'stroke', 'stroke-width', 'stroke-dasharray', 'stroke-linejoin', 'font-family', 'font-size', 'font-weight'];
 
 /**
@@ -97,7 +97,7 @@ export function download(name, type, text) {
 }
 
 /**
- * Copies a text, where the browser allows it.
+ * Copies a text, if the browser allows it.
  * @param {string} text
  * @returns {Promise<boolean>}
  */

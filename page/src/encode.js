@@ -1,4 +1,4 @@
-/** The view that shows the wire of a frame, by its text or by its parts. */
+/** The view that shows the levels of a frame, from its text or from its parts. */
 import { numberIn } from './address.js';
 import { ANSWER } from './core.js';
 import { asFile, byId, copyText, download, html } from './draw.js';
@@ -12,7 +12,7 @@ const EXAMPLES = Object.freeze([
   'E 00000000 D 0', 'E 12345678 R 4',
 ]);
 
-/** The field in which a fault of the parts lies. */
+/** The field with a fault of the parts. */
 const PART_OF = Object.freeze({
   [ANSWER.badIdentifier]: 'part-identifier', [ANSWER.badDlc]: 'part-dlc', [ANSWER.badCount]: 'part-data',
 });
@@ -67,11 +67,11 @@ export class EncodeView {
     const digits = byId('part-identifier').value.trim();
     const data = byId('part-data').value.replaceAll(/\s/g, '');
     if (!/^[0-9a-fA-F]{1,8}$/.test(digits)) {
-      this.refuse(byId('part-identifier'), 'The identifier is written in one to eight hexadecimal digits.');
+      this.refuse(byId('part-identifier'), 'The identifier must have one to eight hexadecimal digits.');
       return;
     }
     if (!/^([0-9a-fA-F]{2}){0,32}$/.test(data)) {
-      this.refuse(byId('part-data'), 'The data are written in two hexadecimal digits a byte.');
+      this.refuse(byId('part-data'), 'The data must have two hexadecimal digits for each byte.');
       return;
     }
     const { answer, text } = this.core.frameText({
@@ -89,7 +89,7 @@ export class EncodeView {
     this.showLevels(this.core.encode(new TextEncoder().encode(text)).levels);
   }
 
-  /** Fills the parts in as a frame's text has them. */
+  /** Fills in the parts of a frame's text. */
   fillParts() {
     const [kind, identifier, direction, dlc, data = ''] = this.text.value.split(' ');
     byId(kind === 'E' ? 'part-extended' : 'part-standard').checked = true;
@@ -105,15 +105,15 @@ export class EncodeView {
     this.levels = levels.join('');
     this.box.value = EXAMPLES.includes(this.text.value) ? this.text.value : '';
     this.setFault([]);
-    byId('encode-told').textContent = `${counted(levels.length, 'level')}, ${counted(stuffed.reduce((sum, flag) => sum + flag, 0), 'stuff bit')} among them.`;
+    byId('encode-told').textContent = `${counted(levels.length, 'level')}, ${counted(stuffed.reduce((sum, flag) => sum + flag, 0), 'stuff bit')} included.`;
     this.wires.show({ id: 'sent', name: `Levels of ${this.text.value}`, levels, fields, stuffed, first: 0, fault: null });
     byId('encode-shown').hidden = false;
     this.wires.draw();
   }
 
   /**
-   * Tells why nothing is shown.
-   * @param {HTMLElement} field where the fault lies
+   * Shows why there is no picture.
+   * @param {HTMLElement} field with the fault
    * @param {...(string | Node)} why
    */
   refuse(field, ...why) {
@@ -126,8 +126,8 @@ export class EncodeView {
   }
 
   /**
-   * @param {Array<string | Node>} why nothing where all is right
-   * @param {HTMLElement | null} [wrong] the field in which the fault lies
+   * @param {Array<string | Node>} why nothing if all is right
+   * @param {HTMLElement | null} [wrong] the field with the fault
    */
   setFault(why, wrong = null) {
     byId('encode-fault').replaceChildren(...why);
@@ -148,7 +148,7 @@ export class EncodeView {
 
   async copyLevels() {
     const copied = await copyText(this.levels);
-    byId('copied').textContent = copied ? `${counted(this.levels.length, 'level')} copied.` : 'The browser does not let this page copy.';
+    byId('copied').textContent = copied ? `${counted(this.levels.length, 'level')} copied.` : 'This browser does not allow the page to copy.';
   }
 
   downloadPicture() {

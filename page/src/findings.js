@@ -1,4 +1,4 @@
-/** What was found in a trace, read from the lines that tell it. */
+/** What was found in a trace, read from the lines of the output. */
 
 const BLANK = 0x20;
 const LINE_END = 0x0a;
@@ -7,9 +7,9 @@ const FAULT = 0x66; // the f of "fault"
 /**
  * @typedef {object} Finding
  * @property {number} start the place at which the frame begins
- * @property {string} frame its text, where there is one
- * @property {string[]} heard the words behind it
- * @property {string} fault the code of its fault, where there is none
+ * @property {string} frame its text, if there is one
+ * @property {string[]} heard the words after it
+ * @property {string} fault the code of its fault, if there is no frame
  * @property {number} place that of the fault
  */
 
@@ -27,7 +27,7 @@ export class Findings {
     this.index();
   }
 
-  /** Notes where each line stands, the place in front of it, and whether it tells a fault. */
+  /** Notes the offset of each line, the place in front of it, and whether it is a fault. */
   index() {
     const { lines } = this;
     let at = 0;

@@ -8,7 +8,7 @@ import { DecodeView } from './decode.js';
 import { EncodeView } from './encode.js';
 import { NetworkView } from './network.js';
 
-/** @returns {Promise<Uint8Array | null>} the module, as it stands in the page; none where the browser can't unpack it */
+/** @returns {Promise<Uint8Array | null>} the module in the page; none if the browser can't unpack it */
 async function moduleBytes() {
   return typeof DecompressionStream === 'function' ? unpackedBytes(byId('module').textContent.trim()) : null;
 }
@@ -66,7 +66,7 @@ function refuse(why) {
   byId('views').hidden = true;
 }
 
-/** So long behind the last touch the address follows, in milliseconds. */
+/** How long after the last touch the address is changed, in milliseconds. */
 const FOLLOWS = 400;
 
 /** The views by their names, each made once it is shown. */
@@ -110,7 +110,7 @@ class Views {
     this.followSoon('bus');
   }
 
-  /** The part of the address that says what a view shows, or nothing where that is too long. */
+  /** The part of the address that says what a view shows, or nothing if that is too long. */
   async address(name) {
     const what = await this.shown[name].what();
     const hash = what === null ? '' : written(name, what);
@@ -127,7 +127,7 @@ class Views {
     }, FOLLOWS);
   }
 
-  /** Copies a link to what a view shows, where it is not too long. */
+  /** Copies a link to what a view shows, if it is not too long. */
   async link(name) {
     const hash = await this.address(name);
     if (hash === '') {
@@ -135,7 +135,7 @@ class Views {
       return;
     }
     history.replaceState(null, '', hash);
-    byId(`${name}-linked`).textContent = (await copyText(location.href)) ? 'The link is copied.' : 'The link stands in the address.';
+    byId(`${name}-linked`).textContent = (await copyText(location.href)) ? 'The link is copied.' : 'The link is in the address.';
   }
 }
 

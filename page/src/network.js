@@ -1,4 +1,4 @@
-/** The view that answers how late the frames of a network can be. */
+/** The view of the worst-case response times of a network. */
 import { packed, unpacked } from './address.js';
 import { makingsOf } from './bound_parts.js';
 import { makingsView } from './bound_view.js';
@@ -21,7 +21,7 @@ export class NetworkView extends DocumentView {
   /**
    * @param {import('./core.js').Core} core
    * @param {import('./runs.js').Runs} runs
-   * @param {(worst: WorstCase) => void} onWorst told of the worst case of a message that is to be shown
+   * @param {(worst: WorstCase) => void} onWorst gets the worst case of a message that is to be shown
    */
   constructor(core, runs, onWorst) {
     super({ view: 'network', what: 'network', program: 'canplan', most: 12000 }, runs);
@@ -71,7 +71,7 @@ export class NetworkView extends DocumentView {
     this.clearFault();
     this.answered = answer;
     const { verdicts, load, borne, text } = answer;
-    const deadlines = late === 0 ? 'all deadlines are met' : `${late.toLocaleString('en')} of ${counted(verdicts.length, 'message')} late: deadlines missed`;
+    const deadlines = late === 0 ? 'all deadlines are met' : `${late.toLocaleString('en')} of ${counted(verdicts.length, 'message')} late: deadlines may be missed`;
     byId('network-told').textContent = `Load ${load}, ${deadlines}. Answered in ${Math.ceil(took)} ms.`;
     byId('network-borne').textContent = borneWords(borne);
     byId('network-left').replaceChildren();
@@ -81,36 +81,36 @@ export class NetworkView extends DocumentView {
     this.enter('shown');
   }
 
-  /** Shows how much is left of a network that is shown, until a message is late. @param {Uint8Array} bytes the network */
+  /** Shows the margins of a network that is shown. @param {Uint8Array} bytes the network */
   async showLeft(bytes) {
     try {
       const told = await this.runs.left(bytes);
       if (told?.answer === ANSWER.done) byId('network-left').replaceChildren(...leftItems(told.margins, Number(formOf(this.document.text)?.burst ?? 0)));
     } catch (error) {
-      byId('network-left').replaceChildren(html('li', {}, [`This browser could not tell what is left (${error.message}). The program canplan can.`]));
+      byId('network-left').replaceChildren(html('li', {}, [`This browser could not compute the margins (${error.message}). The program canplan can.`]));
     }
   }
 
   /**
-   * Has the worst case of a message shown, once the network is answered as it stands.
+   * Shows the worst case of a message, once the current network is answered.
    * @param {import('./network_answer.js').Verdict} verdict
-   * @param {(why: string) => void} tell why there is none
+   * @param {(why: string) => void} refuse gets the reason if there is none
    */
-  async askWorst(verdict, tell) {
-    tell('');
+  async askWorst(verdict, refuse) {
+    refuse('');
     await this.ran;
     if (!this.answered) return;
     try {
       const told = await this.runs.worstCase(this.document.bytes, new TextEncoder().encode(nameOf(verdict.frame)));
       if (told?.answer === ANSWER.done) this.onWorst(worstCaseOf(new TextDecoder().decode(told.scenario), verdict, this.answered.borne !== ''));
-      else if (told) tell(worstCaseRefusal(told.answer));
+      else if (told) refuse(worstCaseRefusal(told.answer));
     } catch (error) {
-      tell(`This browser could not write the worst case (${error.message}). The program canplan can.`);
+      refuse(`This browser could not write the worst case (${error.message}). The program canplan can.`);
     }
   }
 
   /**
-   * Shows what makes the bound of a message, once the network is answered as it stands.
+   * Shows the parts of the bound of a message, once the current network is answered.
    * @param {import('./network_answer.js').Verdict} verdict
    * @param {(view: Node) => void} show
    */
@@ -122,15 +122,15 @@ export class NetworkView extends DocumentView {
       if (told?.answer === ANSWER.done) show(makingsView(verdict, makingsOf(told.lines)));
       else if (told) show(new Text('This needs more memory than this page has. The program canplan has no such limit.'));
     } catch (error) {
-      show(new Text(`This browser could not tell the parts (${error.message}). The program canplan can.`));
+      show(new Text(`This browser could not compute the parts (${error.message}). The program canplan can.`));
     }
   }
 
   async copy() {
-    byId('network-copied').textContent = (await copyText(this.answered.text)) ? 'Copied.' : 'This browser does not let the page copy.';
+    byId('network-copied').textContent = (await copyText(this.answered.text)) ? 'Copied.' : 'This browser does not allow the page to copy.';
   }
 
-  /** What the view shows, for an address; nothing where that is long. */
+  /** What the view shows, for an address; nothing if that is too long. */
   async what() {
     return this.document.isLong ? null : { network: await packed(this.document.text) };
   }

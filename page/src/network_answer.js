@@ -1,25 +1,25 @@
-/** The answer to a network, line by line. */
+/** The output for a network, line by line. */
 
 const MESSAGE = /^(.+) longest (\d+) blocking (\d+) bound (\d+|none) deadline (\d+) (?:slack (\d+) ok|late)(?: name "([^"]*)")?$/;
 const LAST = /^load (\S+) late (\d+) of (\d+)$/;
 
 /**
- * @typedef {object} Verdict what is answered of a message, in bit times
+ * @typedef {object} Verdict the result for a message, in bit times
  * @property {string} frame with its DLC
  * @property {number} longest
  * @property {number} blocking
- * @property {number | null} bound none where there is none
+ * @property {number | null} bound none if there is none
  * @property {number} deadline
- * @property {number | null} slack none where it is late
- * @property {string} name empty where the message has none
+ * @property {number | null} slack none if it is late
+ * @property {string} name empty if the message has none
  */
 
 /**
  * @typedef {object} Answer
  * @property {string} text all of it
- * @property {Verdict[]} verdicts in the order of arbitration
+ * @property {Verdict[]} verdicts in the order of priority
  * @property {string} load
- * @property {string} borne the line that tells for how long hits are borne, or none
+ * @property {string} borne the line that says for how long hits are tolerated, or none
  */
 
 /**

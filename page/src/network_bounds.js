@@ -1,26 +1,26 @@
-/** The bound of each message beside its deadline, in numbers and as bars. */
+/** The bound of each message and its deadline, in numbers and as bars. */
 import { byId, html, svg } from './draw.js';
 import { Pages } from './pages.js';
 
 /** @typedef {import('./network_answer.js').Verdict} Verdict */
 
-/** So many messages are shown at a time. */
+/** The number of messages that are shown at a time. */
 const SHOWN = 64;
 
-/** Where the deadline stands in a bar, and where longer bars are cut, in hundredths of its width. */
+/** The place of the deadline in a bar, and the place at which longer bars are cut, in hundredths of its width. */
 const DEADLINE = 48;
 const CUT = 96;
 
-/** So much is drawn at least of what goes beyond a deadline, to be seen. */
+/** The least width of what exceeds a deadline, so that it can be seen. */
 const LEAST = 2;
 
-/** The names of the columns behind the frame. */
+/** The names of the columns after the frame. */
 const COLUMNS = ['Longest', 'Blocking', 'Bound', 'Deadline', 'Outcome'];
 
 export class BoundsView {
   /**
-   * @param {(verdict: Verdict, tell: (why: string) => void) => void} onWorst told of a message whose worst case is asked for; `tell` says why there is none
-   * @param {(verdict: Verdict, show: (view: Node) => void) => void} onMakings told of one of which is asked what makes its bound; `show` shows that
+   * @param {(verdict: Verdict, tell: (why: string) => void) => void} onWorst gets a message whose worst case is asked for; `tell` shows why there is none
+   * @param {(verdict: Verdict, show: (view: Node) => void) => void} onMakings gets a message whose parts of the bound are asked for; `show` shows them
    */
   constructor(onWorst, onMakings) {
     this.rows = byId('network-bounds');
@@ -34,7 +34,7 @@ export class BoundsView {
     });
   }
 
-  /** @param {Verdict[]} verdicts in the order of arbitration */
+  /** @param {Verdict[]} verdicts in the order of priority */
   show(verdicts) {
     const isLike = verdicts.length === this.verdicts.length;
     this.verdicts = verdicts;
@@ -42,7 +42,7 @@ export class BoundsView {
   }
 }
 
-/** @param {Verdict} verdict @param {number} place in the order of arbitration */
+/** @param {Verdict} verdict @param {number} place in the order of priority */
 function rowOf(verdict, place) {
   const { frame, longest, blocking, bound, deadline, slack, name } = verdict;
   const isLate = slack === null;
@@ -82,7 +82,7 @@ function toggle(button, fill) {
 const told = (time) => time.toLocaleString('en');
 
 /**
- * A bar as long as the bound, against the deadline, which stands at one place in all bars. What goes beyond it is hatched, and
+ * A bar as long as the bound, against the deadline, which is at the same place in all bars. What exceeds it is hatched, and
  * a bar that is cut or has no end ends in an arrow.
  * @param {Verdict} verdict
  */

@@ -8,7 +8,7 @@ import { firstUnknown, placeWords, scanned, stopWords } from './toml_places.js';
 /**
  * @param {import('./core.js').Core} core
  * @param {string} text
- * @param {import('./core.js').WrongField} wrong what the proved code tells
+ * @param {import('./core.js').WrongField} wrong what the proved code reports
  * @returns {{code: string, place: string, inside: Array<Node | string>, why: string}}
  */
 export function networkFault(core, text, wrong) {
@@ -17,7 +17,7 @@ export function networkFault(core, text, wrong) {
   return { code, place: placeWords(text, offset), inside, why };
 }
 
-/** The offset of what is wrong, and what is told of it. */
+/** The offset of what is wrong, and the words about it. */
 function detail(core, { field, number }, code, found) {
   if (field === WRONG.toml) return stopWords(found);
   if (field === WRONG.key) return firstUnknown(found, '', TOP_NAMES);

@@ -1,4 +1,4 @@
-/** The form of a network, beside its text: the rate and the errors, and a table of messages. */
+/** The form of a network, beside its text: the bit rate and the errors, and a table of messages. */
 import { byId, html } from './draw.js';
 import { MESSAGE_NAMES, newMessage } from './network_text.js';
 import { Pages } from './pages.js';
@@ -8,10 +8,10 @@ import { Pages } from './pages.js';
 /** The fields above the table. */
 const TOP = ['rate', 'burst', 'spacing'];
 
-/** So many messages are shown at a time. */
+/** The number of messages that are shown at a time. */
 const SHOWN = 32;
 
-/** What each field of a message is called, and what holds where it is left empty. */
+/** The name of each field of a message, and its value if it is empty. */
 const FIELDS = Object.freeze({
   frame: { label: 'Frame', empty: '', size: 11 },
   dlc: { label: 'DLC', empty: '8', size: 2 },
@@ -103,7 +103,7 @@ export class NetworkForm {
     byId('network-formless').hidden = shows;
   }
 
-  /** Marks the field that is wrong, by the name that canplan gives it, where the form shows the text. */
+  /** Marks the field that is wrong, by the name that canplan gives it, if the form shows the text. */
   mark(code) {
     this.wrong = byId('network-formless').hidden ? code : '';
     const [, place] = /^message\[(\d+)\]/.exec(this.wrong) ?? [];

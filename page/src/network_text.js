@@ -31,7 +31,7 @@ export const newMessage = () => ({ frame: '', dlc: '', period: '', jitter: '', d
 /**
  * The form of a text.
  * @param {string} text
- * @returns {NetworkForm | null} none where the form can't show it
+ * @returns {NetworkForm | null} none if the form can't show it
  */
 export function formOf(text) {
   const { places, strings, literals, stopped } = scanned(text);

@@ -1,7 +1,7 @@
 /** What is wrong in a network, in words. */
 import { ANSWER } from './core.js';
 
-/** The numbers of the fields of which more is told. */
+/** The numbers of the fields about which more is shown. */
 export const WRONG = Object.freeze({ toml: 0, key: 1, errorKey: 5, messageKey: 10, frame: 11 });
 
 /** The first number of a field of a message. */
@@ -32,16 +32,16 @@ export function wrongWords({ field, number }) {
 }
 
 /**
- * For how long hits are borne, as the last line of an answer says it.
+ * For how long hits are tolerated, from the last line of an output.
  * @param {string} line
  */
 export function borneWords(line) {
   if (line === '') return 'No hits: the document has no errors.';
   const [, within] = / within (\d+)$/.exec(line) ?? [];
-  if (within !== undefined) return `Hits are borne for ${Number(within).toLocaleString('en')} bit times: at most 15 come within them, so that no port becomes error passive.`;
+  if (within !== undefined) return `Hits are tolerated for ${Number(within).toLocaleString('en')} bit times: in that time there are at most 15, so no port becomes error passive.`;
   return line.endsWith('for ever')
-    ? 'Hits are borne for ever: at most 15 come in all, so that no port becomes error passive.'
-    : 'Hits are not borne: more than 15 may come at once, so that a port may become error passive.';
+    ? 'Hits are always tolerated: there are at most 15 in all, so no port becomes error passive.'
+    : 'Hits may not be tolerated: more than 15 may come at once, so a port may become error passive.';
 }
 
 /**
@@ -49,6 +49,6 @@ export function borneWords(line) {
  * @param {number} answer
  */
 export function worstCaseRefusal(answer) {
-  if (answer === ANSWER.tooLong) return 'No scenario is long enough: the bus is busy with this message and those before it for more than 999,999 bit times, or for ever.';
+  if (answer === ANSWER.tooLong) return 'No scenario is long enough: the bus is busy with this message and those of higher priority for more than 999,999 bit times, or forever.';
   return answer === ANSWER.noMessage ? 'The network has no such message any more.' : 'The worst case needs more memory than this page has. The program canplan has no such limit.';
 }

@@ -1,11 +1,11 @@
-/** The rows of a long table, so many at a time. */
+/** The rows of a long table, one page at a time. */
 import { byId } from './draw.js';
 
 export class Pages {
   /**
    * @param {string} name which begins those of the elements that turn pages
    * @param {number} size of a page
-   * @param {(first: number, last: number) => void} show fills in the rows from one on, up to another
+   * @param {(first: number, last: number) => void} show fills in the rows from `first` to before `last`
    */
   constructor(name, size, show) {
     Object.assign(this, { name, size, show, first: 0, count: 0 });
@@ -13,7 +13,7 @@ export class Pages {
     byId(`${name}-on`).addEventListener('click', () => this.goTo(this.first + size));
   }
 
-  /** Shows the page of a row, or the nearest that there is, of so many rows. @param {number} row @param {number} [count] */
+  /** Shows the page of a row, or the nearest one, if there are `count` rows. @param {number} row @param {number} [count] */
   goTo(row, count = this.count) {
     this.count = count;
     this.first = Math.floor(Math.min(Math.max(row, 0), Math.max(count - 1, 0)) / this.size) * this.size;

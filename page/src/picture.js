@@ -15,16 +15,16 @@ const DIGIT = 78;
 const PLACE = 94;
 const ROW = 112;
 
-/** Every so many places a number stands under the wire. */
+/** A number is under the wire at each multiple of this. */
 const NUMBERED = 5;
 
 /**
  * @typedef {object} Wire
  * @property {Uint8Array} levels
- * @property {Uint8Array} fields of as many levels from the first on as anything is told of
+ * @property {Uint8Array} fields of the levels from the first on whose field is known
  * @property {Uint8Array} stuffed
  * @property {number} first the place of the first level
- * @property {number | null} fault the index of the level that shows a fault; that behind the last, where they end too soon
+ * @property {number | null} fault the index of the level at which a fault shows; the one after the last, if they end too soon
  */
 
 /**
@@ -37,14 +37,14 @@ export function levelWords(wire, index) {
   if (index >= wire.levels.length) return `Place ${wire.first + index}: the levels have ended; here the fault shows`;
   const value = wire.levels[index];
   const words = [`Level ${wire.first + index}: ${value}, ${levelName(value)}`];
-  if (index >= wire.fields.length) words.push('no field is told of it');
+  if (index >= wire.fields.length) words.push('its field is not known');
   else words.push(wire.stuffed[index] ? `stuff bit in: ${FIELDS[wire.fields[index]].name}` : FIELDS[wire.fields[index]].name);
   if (index === wire.fault) words.push('here the fault shows');
   return words.join('; ');
 }
 
 /**
- * The rule of a level, or nothing where no field is told of it.
+ * The rule of a level, or nothing if its field is not known.
  * @param {Wire} wire
  * @param {number} index
  * @returns {string}
@@ -58,7 +58,7 @@ export function levelRule(wire, index) {
  * @typedef {object} Span levels of one field that follow one another
  * @property {number} field
  * @property {number} from
- * @property {number} to behind the last
+ * @property {number} to after the last
  */
 
 /**
@@ -91,7 +91,7 @@ export function digitsOf(wire, { from, to }) {
 }
 
 /**
- * A number as binary digits say it, in as many hexadecimal digits as they fill: `0001` is `0x1`, and sixteen digits have four.
+ * A number in binary digits, in the hexadecimal digits that they fill: `0001` is `0x1`, and sixteen digits have four.
  * @param {string} digits
  * @returns {string} nothing for a single one
  */
@@ -100,7 +100,7 @@ export function hexadecimal(digits) {
 }
 
 /**
- * The number of a field, where levels behind it tell that it is whole.
+ * The number of a field, if later levels show that it is complete.
  * @param {{levels: Uint8Array, fields: Uint8Array, stuffed: Uint8Array}} wire
  * @param {Span} span
  */
@@ -165,25 +165,25 @@ function wavePath(wire, start, end) {
 /** @param {Wire} wire @param {number} index @param {number} start */
 function levelCell(wire, index, start) {
   const x = SIDE + (index - start) * CELL;
-  const told = index < wire.fields.length;
+  const known = index < wire.fields.length;
   const place = wire.first + index;
   const parts = [
-    svg('rect', { class: `cell ${told ? `field field-${wire.fields[index]} pale` : 'untold'}`, x, y: LABEL, width: CELL, height: DIGIT - LABEL + 5 }),
+    svg('rect', { class: `cell ${known ? `field field-${wire.fields[index]} pale` : 'untold'}`, x, y: LABEL, width: CELL, height: DIGIT - LABEL + 5 }),
     svg('text', { class: 'digit', x: x + CELL / 2, y: DIGIT, 'text-anchor': 'middle' }, [String(wire.levels[index] ?? '…')]),
   ];
-  if (told && wire.stuffed[index]) {
+  if (known && wire.stuffed[index]) {
     parts.splice(1, 0, svg('path', { class: 'hatch', d: hatching({ x, y: LABEL + 1, width: CELL, height: LOW + 4 - LABEL }, 8) }));
   }
   if (index === wire.fault) parts.push(svg('rect', { class: 'fault-box', x: x + 1.5, y: LABEL + 1.5, width: CELL - 3, height: DIGIT - LABEL + 2 }));
   if (index === start || place % NUMBERED === 0) parts.push(svg('text', { class: 'place', x: x + CELL / 2, y: PLACE, 'text-anchor': 'middle' }, [String(place)]));
   return svg('g', {
     class: 'level', role: 'option', id: `${wire.id}-${index}`, 'data-index': index, tabindex: '-1',
-    'aria-selected': 'false', 'aria-label': levelWords(wire, index), ...(told && wire.stuffed[index] ? { 'data-stuffed': '' } : {}),
+    'aria-selected': 'false', 'aria-label': levelWords(wire, index), ...(known && wire.stuffed[index] ? { 'data-stuffed': '' } : {}),
   }, parts);
 }
 
 /**
- * Slanted lines over a box, so many pixels apart.
+ * Slanted lines over a box, `step` pixels apart.
  * @param {{x: number, y: number, width: number, height: number}} box
  * @param {number} step
  * @returns {string}
@@ -212,7 +212,7 @@ function rowOf(wire, start, end, row) {
 }
 
 /**
- * The picture of a wire, as wide as there is room.
+ * The picture of a wire, as wide as its space.
  * @param {Wire & {id: string, name: string}} wire
  * @param {number} room in pixels
  * @returns {SVGSVGElement}
@@ -235,7 +235,7 @@ export function pictureOf(wire, room) {
  * Selects a level of the pictures in a room.
  * @param {HTMLElement} room
  * @param {SVGElement} level
- * @param {(index: number) => void} onLevel told of it
+ * @param {(index: number) => void} onLevel gets it
  */
 export function lookAt(room, level, onLevel) {
   for (const other of room.querySelectorAll('.level[aria-selected=true], .level[tabindex="0"]')) {
@@ -251,7 +251,7 @@ export function lookAt(room, level, onLevel) {
  * Lets the levels of the pictures in a room be pointed at, and focused one after another by the arrow keys, Home and
  * End. The room listens and not the picture, which a browser would take for something to be focused itself.
  * @param {HTMLElement} room
- * @param {(index: number) => void} onLevel told of the level that is looked at
+ * @param {(index: number) => void} onLevel gets the level that is looked at
  */
 export function letLook(room, onLevel) {
   for (const type of ['pointerover', 'focusin']) {

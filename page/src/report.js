@@ -1,10 +1,10 @@
-/** The report of a scenario, read where it stands: it may have millions of lines. */
+/** The report of a scenario, read in place: it may have millions of lines. */
 
 const LINE_END = 0x0a;
 const BLANK = 0x20;
 
 /**
- * Where the lines of a report begin, which of them tell of a port, and the recorded levels.
+ * The offsets of the lines of a report, which of them are about a port, and the recorded levels.
  * @param {Uint8Array} bytes
  */
 export function indexReport(bytes) {
@@ -21,7 +21,7 @@ export function indexReport(bytes) {
 }
 
 /**
- * @typedef {object} PortEnd a port behind the run
+ * @typedef {object} PortEnd a port after the run
  * @property {string} state
  * @property {string} tec
  * @property {string} rec

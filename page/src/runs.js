@@ -16,7 +16,7 @@ class Runner {
     this.busy = false;
   }
 
-  /** @param {object} asked @returns {Promise<object>} the answer, which says nothing where the worker was ended */
+  /** @param {object} asked @returns {Promise<object>} the answer, which is empty if the worker was ended */
   ask(asked) {
     this.busy = true;
     return new Promise((resolve, reject) => {
@@ -47,7 +47,7 @@ export class Runs {
     this.ready(1);
   }
 
-  /** Has so many workers wait for something to do. @param {number} count */
+  /** Makes this many workers, which wait for something to do. @param {number} count */
   ready(count) {
     while (this.runners.length < count) this.runners.push(new Runner(this.address, this.module));
   }
@@ -60,21 +60,21 @@ export class Runs {
   }
 
   /**
-   * The report of a scenario, or what is wrong in it; none where another text came meanwhile.
+   * The report of a scenario, or what is wrong in it; none if another text came in the meantime.
    * @param {Uint8Array} text
    * @returns {Promise<{answer: number, wrong: WrongField, report: Uint8Array} | null>}
    */
   report(text) { return this.newest({ ask: 'report', text }); }
 
   /**
-   * The answer to a network, or what is wrong in it; none where another text came meanwhile.
+   * The output for a network, or what is wrong in it; none if another text came in the meantime.
    * @param {Uint8Array} text
    * @returns {Promise<{answer: number, wrong: WrongField, late: number, lines: Uint8Array} | null>}
    */
   plan(text) { return this.newest({ ask: 'plan', text }); }
 
   /**
-   * What makes the bound of a message in a network, in the lines of the answer; none where another text came meanwhile.
+   * The parts of the bound of a message in a network, as lines of the output; none if another text came in the meantime.
    * @param {Uint8Array} text
    * @param {string} frame of the message, with its DLC
    * @returns {Promise<{answer: number, lines: string[]} | null>}
@@ -82,21 +82,21 @@ export class Runs {
   makings(text, frame) { return this.newest({ ask: 'makings', text, frame }); }
 
   /**
-   * How much is left of a network until a message is late; none where another text came meanwhile.
+   * The margins of a network; none if another text came in the meantime.
    * @param {Uint8Array} text
    * @returns {Promise<{answer: number, margins: Margin[]} | null>}
    */
   left(text) { return this.newest({ ask: 'left', text }); }
 
   /**
-   * The worst case of a message in a network, as a scenario; none where another text came meanwhile.
+   * The worst case of a message in a network, as a scenario; none if another text came in the meantime.
    * @param {Uint8Array} text
    * @param {Uint8Array} name of the message
    * @returns {Promise<{answer: number, scenario: Uint8Array} | null>}
    */
   worstCase(text, name) { return this.newest({ ask: 'worstCase', text, name }); }
 
-  /** The answer to what is asked, if nothing else was meanwhile. @param {object} asked */
+  /** The answer to what is asked, if nothing else was asked in the meantime. @param {object} asked */
   async newest(asked) {
     this.number += 1;
     const { number } = this;
@@ -107,13 +107,13 @@ export class Runs {
   }
 
   /**
-   * What each port of the scenario does, one after another: told by one run of the bus, where that has room for them.
+   * What each port of the scenario does, one after another: from one run of the bus, if it has space for them.
    * @param {Uint8Array} text
    * @param {Uint8Array} levels those that are recorded
    * @param {number} count of ports
    * @param {() => number | undefined} next the port that is asked for next
    * @param {(node: number, told: {times: Uint8Array, index: object}) => void} onPort
-   * @returns {Promise<boolean>} whether no other text came meanwhile
+   * @returns {Promise<boolean>} whether no other text came in the meantime
    */
   async ports(text, levels, count, next, onPort) {
     const { number } = this;
@@ -129,7 +129,7 @@ export class Runs {
     return this.portByPort(text, levels, count, next, onPort);
   }
 
-  /** Hands on ports that are told, in a task each, so that the page goes on meanwhile. */
+  /** Hands on ports, each in a task of its own, so that the page stays responsive. */
   async hand(ports, next, onPort) {
     const { number } = this;
     for (let node = next(); node !== undefined; node = next()) {
@@ -140,7 +140,7 @@ export class Runs {
     return true;
   }
 
-  /** The same by a run for each port, in as many workers as there are. */
+  /** What each port does, from a run for each port, in all workers. */
   async portByPort(text, levels, count, next, onPort) {
     const { number } = this;
     this.ready(Math.min(count, MOST_WORKERS, navigator.hardwareConcurrency || 1));
@@ -164,7 +164,7 @@ export class Runs {
   }
 
   /** Ends a worker that could not answer. */
-  end(runner, { failed = 'a port was not told' }) {
+  end(runner, { failed = 'a port was not computed' }) {
     runner.end();
     this.runners = this.runners.filter((other) => other !== runner);
     if (this.runners.length === 0) throw new Error(failed);

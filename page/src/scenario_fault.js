@@ -10,7 +10,7 @@ const NAMES = Object.freeze({ 1: ['version', 'bits', 'port', 'at', 'in', 'view']
 /**
  * @param {import('./core.js').Core} core
  * @param {string} text
- * @param {import('./core.js').WrongField} wrong what the proved code tells
+ * @param {import('./core.js').WrongField} wrong what the proved code reports
  * @returns {{code: string, place: string, inside: Array<Node | string>, why: string}}
  */
 export function faultIn(core, text, wrong) {
@@ -20,7 +20,7 @@ export function faultIn(core, text, wrong) {
   return { code, place: placeWords(text, offset), inside, why };
 }
 
-/** The offset of what is wrong, and what is told of it. */
+/** The offset of what is wrong, and the words about it. */
 function detail(core, text, { field, number }, code, found) {
   if (field === WRONG.toml) return stopWords(found);
   if (field === WRONG.key || field === WRONG.portKey) return unknownName(text, field === WRONG.key ? '' : `port[${number}]`, found);
@@ -35,7 +35,7 @@ function unknownName(text, table, found) {
   return firstUnknown(found, table, NAMES[table === '' ? version : 'port']);
 }
 
-/** What is wrong in a frame text, where it is one. @param {string | undefined} frame */
+/** What is wrong in a frame text, if it is one. @param {string | undefined} frame */
 function wrongFrame(core, frame) {
   if (frame === undefined) return [];
   const bytes = new TextEncoder().encode(frame);

@@ -7,10 +7,10 @@ import { newPort } from './scenario_text.js';
 /** The fields at the top. */
 const TOP = ['version', 'bits', 'at', 'in', 'view'];
 
-/** What holds where a field is left empty. */
+/** The values of fields that are left empty. */
 const DEFAULTS = Object.freeze({ queue: 'none', log: '64', hold: '0' });
 
-/** So many ports, and so many letters of one’s frames, are shown unfolded. */
+/** The number of ports, and of letters of the frames of one, that are shown unfolded. */
 const MOST_UNFOLDED = 4;
 const MOST_LETTERS = 2000;
 
@@ -94,7 +94,7 @@ export class ScenarioForm {
     join.checked = port.join;
     this.ports.children[node].append(html('fieldset', { class: 'parts', 'aria-label': `Port ${node}` }, [
       html('div', { class: 'entry wide' }, [html('label', { for: `bus-queue-${node}` }, ['Frames to send']), queue]),
-      entry('log', 'Room in the log', number('log')),
+      entry('log', 'Log capacity', number('log')),
       entry('hold', 'Overload frames', number('hold')),
       html('label', { class: 'check' }, [join, ' has to join first']),
       html('button', { type: 'button', class: 'remove', 'data-node': node, 'aria-label': `Remove port ${node}` }, ['Remove']),
@@ -107,7 +107,7 @@ export class ScenarioForm {
     byId('bus-formless').hidden = shows;
   }
 
-  /** Marks the field that is wrong, by the name that canbit gives it, where the form shows the text. */
+  /** Marks the field that is wrong, by the name that canbit gives it, if the form shows the text. */
   mark(code) {
     for (const field of byId('bus-form').querySelectorAll('[aria-invalid]')) field.removeAttribute('aria-invalid');
     const found = /^(?:port\[(\d+)\]\.(queue|log|join|hold)|(version|bits|at|in|view))/.exec(code);

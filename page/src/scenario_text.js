@@ -34,7 +34,7 @@ const bare = (text) => text.replace(/("(?:[^"\\\n]|\\.)*")|#[^\n]*/g, (_, string
 /**
  * The tables of a text, each the values of its names, and the line of each name.
  * @param {string} text
- * @returns {{tables: Array<Record<string, unknown>>, lines: Map<string, number>} | null} none where the form can't show it
+ * @returns {{tables: Array<Record<string, unknown>>, lines: Map<string, number>} | null} none if the form can't show it
  */
 export function tablesIn(text) {
   const tables = [{}];
@@ -73,7 +73,7 @@ function valueOf(text) {
 /**
  * The form of a text.
  * @param {string} text
- * @returns {ScenarioForm | null} none where the form can't show it
+ * @returns {ScenarioForm | null} none if the form can't show it
  */
 export function formOf(text) {
   const found = tablesIn(text);
@@ -117,7 +117,7 @@ function portLines(port, version) {
   return lines;
 }
 
-/** @param {string} frame with its time in front, or else at time 0 */
+/** @param {string} frame with its time in front, or otherwise at time 0 */
 function timed(frame) {
   const [, time, text] = /^(?:(\d+)\s+(?=[A-Z]))?(.*)$/.exec(frame);
   return `[${time ?? 0}, ${JSON.stringify(text)}]`;

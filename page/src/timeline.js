@@ -11,23 +11,23 @@ const HIGH = 96;
 const LOW = 122;
 const FEWEST = 40;
 
-/** So many findings are drawn one by one; more are drawn together, by the pixel. */
+/** The most findings that are drawn one by one; more are drawn together, by the pixel. */
 const MOST_DRAWN = 1500;
 
-/** Levels are drawn where each has so many pixels. */
+/** Levels are drawn if each has at least this many pixels. */
 const LEVEL_ROOM = 3;
 
 /**
  * @typedef {object} Traced
  * @property {Uint8Array} levels
  * @property {import('./findings.js').Findings} findings
- * @property {(line: number) => number} endOf the place behind a finding's last level
+ * @property {(line: number) => number} endOf the place after a finding's last level
  */
 
 export class Timeline {
   /**
    * @param {HTMLElement} room
-   * @param {(line: number) => void} onPick told of the finding that is picked
+   * @param {(line: number) => void} onPick gets the finding that is picked
    */
   constructor(room, onPick) {
     this.room = room;
@@ -61,7 +61,7 @@ export class Timeline {
   }
 
   /**
-   * Shows so many levels from a place on, as far as there are any.
+   * Shows `span` levels from a place on, as far as there are any.
    * @param {number} from
    * @param {number} span
    */
@@ -243,7 +243,7 @@ export class Timeline {
     ];
   }
 
-  /** The levels, where they have room. */
+  /** The levels, if there is space for them. */
   wave() {
     const { levels } = this.traced;
     if (this.width / this.span < LEVEL_ROOM) return [];

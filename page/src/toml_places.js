@@ -1,6 +1,6 @@
 /**
- * Where the values of a TOML document stand, and where a text stops being one. It only finds places and what is written
- * there: whether a text is a document, and what it means, the proved code tells.
+ * The places of the values of a TOML document, and the place at which a text stops being one. It only finds places and what
+ * is written there: the proved code decides whether a text is a document, and what it means.
  */
 
 const BARE = /[A-Za-z0-9_-]+/y;
@@ -26,7 +26,7 @@ class Scanner {
   /** @param {string} text */
   constructor(text) {
     Object.assign(this, { text, at: 0, table: '', arrays: new Map() });
-    /** @type {Map<string, number>} the offset at which each value stands, by its path */
+    /** @type {Map<string, number>} the offset of each value, by its path */
     this.places = new Map();
     /** @type {Map<string, string>} the strings, by their paths */
     this.strings = new Map();
@@ -78,10 +78,10 @@ class Scanner {
     const isArray = this.skip('[[');
     if (!isArray) this.skip('[');
     const parts = this.key();
-    this.need(isArray ? ']]' : ']', 'behind the name of a table');
+    this.need(isArray ? ']]' : ']', 'after the name of a table');
     const name = parts.map((part, depth) => (depth + 1 < parts.length && this.arrays.has(part) ? `${part}[${this.arrays.get(part) - 1}]` : part)).join('.');
     if (isArray && this.places.has(name) && !this.arrays.has(name)) this.stop(`“${name}” is no array of tables`, offset);
-    if (!isArray && this.places.has(name)) this.stop(`the name “${name}” stands here once more`, offset);
+    if (!isArray && this.places.has(name)) this.stop(`the name “${name}” is used again here`, offset);
     const count = this.arrays.get(name) ?? 0;
     if (isArray) this.arrays.set(name, count + 1);
     this.table = isArray ? `${name}[${count}]` : name;
@@ -113,8 +113,8 @@ class Scanner {
     const offset = this.at;
     const parts = this.key();
     const path = [table, ...parts].filter(Boolean).join('.');
-    if (this.places.has(path)) this.stop(`the name “${parts.join('.')}” stands here once more`, offset);
-    this.need('=', 'behind a name');
+    if (this.places.has(path)) this.stop(`the name “${parts.join('.')}” is used again here`, offset);
+    this.need('=', 'after a name');
     this.take(BLANKS);
     this.names.push({ table, name: parts[0], offset });
     this.value(path);
@@ -176,7 +176,7 @@ class Scanner {
       if (this.take(pattern) === null) this.stop('this is no escape of TOML');
       return;
     }
-    if (/[\0-\x08\x0b\x0c\x0e-\x1f\x7f]/.test(letter)) this.stop('this character may not stand in a string');
+    if (/[\0-\x08\x0b\x0c\x0e-\x1f\x7f]/.test(letter)) this.stop('this character is not allowed in a string');
     this.at += 1;
   }
 
@@ -193,7 +193,7 @@ class Scanner {
     }
   }
 
-  /** Blanks, line ends and comments. */
+  /** Spaces, line ends and comments. */
   gap() { while (this.take(/[ \t\r\n]+/y) !== null || this.take(COMMENT) !== null); }
 
   inline(path) {

@@ -8,7 +8,7 @@ import { FIELD, FIELDS } from './words.js';
 export class WireView {
   /**
    * @param {HTMLElement} room where the picture goes
-   * @param {HTMLElement} words where the level that is looked at is told
+   * @param {HTMLElement} words where the level that is looked at is described
    * @param {HTMLElement} table the body of the table of fields
    */
   constructor(room, words, table) {
@@ -34,7 +34,7 @@ export class WireView {
     else this.words.replaceChildren();
   }
 
-  /** Draws the picture anew, as wide as there is room now. */
+  /** Draws the picture again, as wide as its space is now. */
   draw() {
     this.width = this.room.clientWidth;
     this.room.replaceChildren();
@@ -49,7 +49,7 @@ export class WireView {
     this.words.replaceChildren(html('strong', {}, [`${levelWords(this.wire, index)}.`]), ` ${levelRule(this.wire, index)}`);
   }
 
-  /** Marks a level as one that is looked at, where there is one. @param {number} index */
+  /** Marks a level as one that is looked at, if there is one. @param {number} index */
   focus(index) {
     const level = this.room.querySelector(`[data-index="${index}"]`);
     if (level) lookAt(this.room, level, (found) => this.look(found));

@@ -1,4 +1,4 @@
-/** What runs beside the page: the proved code on a document, so that the page goes on meanwhile. */
+/** Runs the proved code on a document outside the page's main thread, so that the page stays responsive. */
 import { linesBelow } from './bound_parts.js';
 import { ANSWER, Core, TIME_BYTES } from './core.js';
 import { indexOf } from './bus_times.js';

@@ -1,6 +1,6 @@
 /** The worst case of a message: its frames in the scenario that canplan writes, and which of them is the latest. */
 
-/** A line of that scenario with a frame: the bit time before which it is offered, and all of it but its DLC and data. */
+/** A line of that scenario with a frame: the bit time for which it is offered, and its text without DLC and data. */
 const OFFER = /^ {4}\[(\d+), "(\S+ \S+ \S+) /;
 
 /**
@@ -11,10 +11,10 @@ const OFFER = /^ {4}\[(\d+), "(\S+ \S+ \S+) /;
  * @property {number | null} bound
  * @property {boolean} isHit whether the bound is one with hits, of which the scenario has none
  * @property {number} port that has the frames of the message
- * @property {number[]} offers the bit times before which they are offered
+ * @property {number[]} offers the bit times for which they are offered
  */
 
-/** The name of a message as canplan takes it: its frame's text up to the blank before the DLC. @param {string} frame */
+/** The name of a message as canplan takes it: its frame's text before the space and the DLC. @param {string} frame */
 export const nameOf = (frame) => frame.slice(0, frame.lastIndexOf(' '));
 
 /**
@@ -37,10 +37,10 @@ export function worstCaseOf(scenario, { frame, bound }, isHit) {
 }
 
 /**
- * The frame that is latest: one that ends as long behind its offer as the bound is, or else the first, which has waited for
- * its jitter before it was offered. Where the bound is one with hits, that which ends the longest behind its offer.
+ * The latest frame: one whose time from offer to end is the bound, or otherwise the first, which has waited for its jitter
+ * before it was offered. If the bound is one with hits, the frame with the longest time from offer to end.
  * @param {WorstCase} worst
- * @param {number[]} ends the bit times behind the frames of the message, in the order of their offers
+ * @param {number[]} ends the bit times after the frames of the message, in the order of their offers
  */
 export function latestOf({ offers, bound, isHit }, ends) {
   const waits = ends.map((end, number) => end - offers[number]);
@@ -52,14 +52,14 @@ export function latestOf({ offers, bound, isHit }, ends) {
 /**
  * What is shown, in words.
  * @param {WorstCase} worst
- * @param {ReturnType<typeof latestOf> | null} latest none where its times are not told
+ * @param {ReturnType<typeof latestOf> | null} latest none if its times are not known
  */
 export function worstCaseWords({ frame, bound, isHit, port }, latest) {
-  const whole = `The worst case of ${frame}, where nothing is hit`;
+  const whole = `The worst case of ${frame} without hits`;
   if (latest === null) return `${whole}.`;
   const { offer, end, wait } = latest;
-  const bounded = wait === bound ? ', which is its bound.' : `. Its bound, ${told(bound)}, counts ${isHit ? 'its jitter and hits' : 'its jitter'} too.`;
-  return `${whole}: its latest frame, of port ${port}, is offered before bit time ${told(offer)} and ends with bit time ${told(end - 1)}, ${told(wait)} bit times behind its offer${bounded}`;
+  const bounded = wait === bound ? ', which is its bound.' : `. Its bound, ${told(bound)}, also counts ${isHit ? 'its jitter and hits' : 'its jitter'}.`;
+  return `${whole}: its latest frame, of port ${port}, is offered before bit time ${told(offer)} and ends with bit time ${told(end - 1)}, ${told(wait)} bit times after its offer${bounded}`;
 }
 
 /** @param {number} time */

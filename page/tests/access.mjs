@@ -41,7 +41,7 @@ const complaints = () => {
   return found;
 };
 
-/** Texts whose contrast with what is behind them is too low. */
+/** Texts whose contrast with their background is too low. */
 const pale = () => {
   const canvas = document.createElement('canvas');
   canvas.width = 1;
@@ -220,7 +220,7 @@ export const accessTests = [
       await page.key('Tab');
       reached.push(await page.run(() => document.activeElement.id || document.activeElement.getAttribute('aria-label') || document.activeElement.textContent));
     }
-    assert.deepEqual(reached, ['network-examples', 'network-edit', 'network-link', 'Bounds and deadlines', ...worst, 'The answer of canplan', 'network-file', 'network-save', 'network-rate', 'network-burst', 'network-spacing',
+    assert.deepEqual(reached, ['network-examples', 'network-edit', 'network-link', 'Bounds and deadlines', ...worst, 'The output of canplan', 'network-file', 'network-save', 'network-rate', 'network-burst', 'network-spacing',
       'Messages', 'network-frame-0', 'network-dlc-0', 'network-period-0', 'network-jitter-0', 'network-deadline-0', 'network-name-0', 'network-remove-0', 'network-frame-1']);
   }],
   ['tabs are changed by keys', async ({ open }) => {

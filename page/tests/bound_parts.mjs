@@ -1,9 +1,9 @@
-// What makes a bound: read from an answer with details, and drawn.
+// The parts of a bound: read from an output with details, and drawn.
 import assert from 'node:assert/strict';
 import { linesBelow, makingsOf } from '../src/bound_parts.js';
 import { networkShown } from './network_page.mjs';
 
-/** The network of docs/PLANNING.md at 125 kbit/s, whose second message has a name; and the answer with details. */
+/** The network of docs/PLANNING.md at 125 kbit/s, whose second message has a name; and the output with details. */
 const NETWORK = `version = 1\nrate = 125000\n${[['100', 2430, ''], ['200', 3420, 'name = "Brake"\n'], ['300', 3420, '']].map(([identifier, period, name]) => `[[message]]\nframe = "S ${identifier} D"\n${name}dlc = 7\nperiod = ${period}\n`).join('')}`;
 const ANSWER = `network messages 3 load 0.971 rate 125000
 S 100 D 7 longest 122 blocking 121 bound 240 deadline 303 slack 63 ok
@@ -66,12 +66,12 @@ export const boundPartsTests = [
     await press();
     await page.until("document.querySelector('#network-bounds .makings') !== null");
     const { words, items, drawn } = await below(page);
-    assert.equal(words, 'Frame 2 of the busy period is the latest. It is released 427 bit times behind the first, at the first upright line, and what stands before that is no part of its bound. '
-      + '5 bit times of its deadline are left, 1 %. In microseconds: bound 3376, deadline 3416, slack 40.');
+    assert.equal(words, 'Frame 2 of the busy period has the longest response time. It is released 427 bit times after the first, at the first upright line. What is before that line is not part of its bound. '
+      + 'The slack is 5 bit times, 1 % of the deadline. In microseconds: bound 3376, deadline 3416, slack 40.');
     assert.deepEqual(items, [
-      '1 frame of its own before the latest: 122 bit times, 14 %', '3 frames of S 100 D 7: 366 bit times, 43 %', '2 frames of S 200 D 7 Brake: 242 bit times, 29 %', 'Its own wire: 119 bit times, 14 %',
+      '1 frame of this message before the latest: 122 bit times, 14 %', '3 frames of S 100 D 7: 366 bit times, 43 %', '2 frames of S 200 D 7 Brake: 242 bit times, 29 %', 'Its own frame: 119 bit times, 14 %',
     ]);
-    // of 854 bit times from the first release to the deadline, 427 behind which the latest frame is released
+    // of 854 bit times from the first release to the deadline; the latest frame is released after 427
     assert.deepEqual(drawn, [
       ['part-earlier', '0%', '14.3%'], ['part-before', '14.3%', '42.9%'], ['part-before', '57.1%', '28.3%'], ['part-wire', '85.5%', '13.9%'], ['released', '50%', '3'], ['deadline', '100%', '3'],
     ]);

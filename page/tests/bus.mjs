@@ -1,4 +1,4 @@
-// The view Bus: the examples against canbit, a picture worked out by hand, wrong input, long scenarios, and the form.
+// The view Bus: the examples against canbit, a picture computed by hand, wrong input, long scenarios, and the form.
 import assert from 'node:assert/strict';
 import { readFileSync, readdirSync } from 'node:fs';
 import { join } from 'node:path';
@@ -47,8 +47,8 @@ export const busTests = [
       assert.equal(told.shown, false);
     }
   }],
-  ['arbitration is shown as it was worked out by hand', async ({ open }) => {
-    // both send; at bit time 13, that of the last bit of the identifier behind two stuff bits, port 0 sends recessive and loses
+  ['arbitration is shown as computed by hand', async ({ open }) => {
+    // both send; at bit time 13, that of the last bit of the identifier, after two stuff bits, port 0 sends recessive and loses
     const page = await shown(open, `version = 1\nbits = 60\n${PORTS}`);
     await page.click('bus-zoom-all');
     await drawn(page);
@@ -59,7 +59,7 @@ export const busTests = [
       counts: [...document.querySelectorAll('#bus-picture .count')].map((text) => text.textContent),
     }));
     assert.deepEqual(picture.lost, ['13', '']);
-    // behind the 50 levels of that frame and an intermission port 0 sends its own
+    // after the 50 levels of that frame and an intermission port 0 sends its own
     assert.deepEqual(picture.words, [['sending', 'receiving', 'sending'], ['sending', 'receiving']]);
     assert.equal(picture.high, (await report(page)).split('\n')[1]);
     assert.deepEqual(picture.counts, ['TEC 0 REC 0', 'TEC 0 REC 0']);
@@ -72,12 +72,12 @@ export const busTests = [
     await page.click('bus-on');
     assert.deepEqual((await rows(page)).map((row) => row[2]), ['receiver', 'sender']);
   }],
-  ['disturbances are shown where they fall', async ({ open, examples }) => {
+  ['hits are shown in their bit times', async ({ open, examples }) => {
     const page = await shown(open, readFileSync(join(examples, 'scenarios/bit_error.toml'), 'utf8'));
     await page.click('bus-zoom-all');
     await drawn(page);
     const marks = (name) => page.run((of) => [...document.querySelectorAll(`#bus-picture .${of}`)].map((mark) => mark.dataset.times), name);
-    // the hit is 16 bit times behind the beginning; the sender sees it there, the receiver six bit times later
+    // the hit is 16 bit times after the beginning; the transmitter sees it there, the receiver six bit times later
     assert.deepEqual(await marks('hit'), ['16']);
     assert.deepEqual(await marks('error-here'), ['16', '22']);
     await page.click('bus-next');

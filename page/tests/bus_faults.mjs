@@ -1,4 +1,4 @@
-// What is wrong in a scenario is told where it is.
+// What is wrong in a scenario is shown with its place.
 import assert from 'node:assert/strict';
 import { fault, fill, shown } from './bus_page.mjs';
 
@@ -30,11 +30,11 @@ const WRONG = [
   ['version = 1\nbits = 1\nview = [[0, 1]]\n[[port]]', 'view[0]', [3, 9], ['bus-view']],
 ];
 
-/** Texts that are no TOML: each with the line and column at which they stop being so, and what is told. */
+/** Texts that are no TOML: each with the line and column at which they stop being so, and the words. */
 const NO_TOML = [
   ['version = 1\nbits = 8 8\n[[port]]', [2, 10], /end of the line was expected/],
   ['version = 1\nbits = 08\n[[port]]', [2, 8], /value was expected/],
-  ['version = 1\nversion = 1\n[[port]]', [2, 1], /“version” stands here once more/],
+  ['version = 1\nversion = 1\n[[port]]', [2, 1], /“version” is used again here/],
   ['version = 1\nbits = 1\n[[port]]\nqueue = ["S 000 D 0]', [4, 10], /string does not end on its line/],
   ['version = 1\nbits = 1\n[[port]\n', [3, 7], /“]]” was expected/],
   ['version = 1\nbits = 1\n[[port]]\nqueue = ["S 000 D 0" "S 001 D 0"]', [4, 22], /“,” or “]” was expected/],
@@ -52,7 +52,7 @@ const TOML = [
 ];
 
 export const busFaultTests = [
-  ['each kind of wrong field is told at its place, and marked where the form has it', async ({ open }) => {
+  ['each kind of wrong field is shown with its place, and marked if the form has it', async ({ open }) => {
     const page = await shown(open);
     for (const [text, code, place, fields] of WRONG) {
       await fill(page, 'bus-text', text);
@@ -66,7 +66,7 @@ export const busFaultTests = [
     await fill(page, 'bus-text', `version = 1\nbits = 8\n${PORTS}`);
     assert.deepEqual(await fault(page), { text: '', shown: true, invalid: [] });
   }],
-  ['a text that is no TOML is told where it stops being so', async ({ open }) => {
+  ['of a text that is no TOML the place where it stops being so is shown', async ({ open }) => {
     const page = await shown(open);
     for (const [text, [line, column], words] of NO_TOML) {
       await fill(page, 'bus-text', text);
@@ -81,7 +81,7 @@ export const busFaultTests = [
       assert.match((await fault(page)).text, /^P2 port\[\d\]\.hold|^P2 key/, text);
     }
   }],
-  ['a wrong name is told, and so is what is wrong in a frame', async ({ open }) => {
+  ['a wrong name is shown, and what is wrong in a frame', async ({ open }) => {
     const page = await shown(open);
     const rows = [
       ['version = 1\nbits = 1\nspeed = 1\n[[port]]', 'key', /The name is “speed”\./],

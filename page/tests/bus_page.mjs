@@ -1,6 +1,6 @@
 // What the tests of the view Bus do with the page.
 
-/** Waits until the run is told whole, or refused. */
+/** Waits until the run is complete, or refused. */
 export const settled = (page) => page.until("['shown', 'refused'].includes(document.getElementById('panel-bus').dataset.state)");
 
 /** Puts a text into a field, and waits for the answer. */
@@ -32,7 +32,7 @@ export const fault = (page) => page.run(() => ({
   invalid: [...document.querySelectorAll('#panel-bus [aria-invalid=true]')].map((field) => field.id),
 }));
 
-/** What the table tells of the ports in the bit time that is picked. */
+/** The table of the ports in the bit time that is picked. */
 export const rows = (page) => page.run(() => [...document.querySelectorAll('#bus-rows tr')].map((row) => [...row.children].map((cell) => cell.textContent)));
 
 /** The bit time that is picked. */
@@ -41,7 +41,7 @@ export const time = (page) => page.run(() => Number(/^Bit time ([\d,]+)/.exec(do
 /** Waits until what was asked is drawn. */
 export const drawn = (page) => page.run(() => new Promise((resolve) => { requestAnimationFrame(() => requestAnimationFrame(resolve)); }));
 
-/** A scenario of version 2 in which each port sends so many frames, each so many bit times behind the one before. */
+/** A scenario of version 2 in which each port sends several frames, at a fixed distance. */
 export function busy(ports, bits, frames, each) {
   const port = (node) => Array.from({ length: frames }, (_, k) => `[${k * each + node * 17}, "S ${((node * 128 + k) % 2032).toString(16).padStart(3, '0')} D 2 aa5${node % 10}"]`).join(', ');
   return `version = 2\nbits = ${bits}\n${Array.from({ length: ports }, (_, node) => `[[port]]\nqueue = [${port(node)}]\nlog = 1000\n`).join('')}`;

@@ -1,4 +1,4 @@
-// Long scenarios and many ports: shown in time, and the page never blocked meanwhile.
+// Long scenarios and many ports: shown in time, without blocking the page.
 import assert from 'node:assert/strict';
 import { busy, settled, shown } from './bus_page.mjs';
 import { unblocked, within } from './limits.mjs';

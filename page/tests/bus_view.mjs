@@ -1,4 +1,4 @@
-// How the view Bus is read: what stands first, rows and their fields, folding, going from event to event, and logs.
+// How the view Bus is read: what comes first, rows and their fields, folding, going from event to event, and logs.
 import assert from 'node:assert/strict';
 import { writeFileSync } from 'node:fs';
 import { join } from 'node:path';
@@ -89,17 +89,17 @@ export const busViewTests = [
     await drawn(page);
     assert.equal(await top(), '8');
   }],
-  ['zoomed in, the fields of a frame are named as they were worked out by hand', async ({ open }) => {
+  ['zoomed in, the fields of a frame are named as computed by hand', async ({ open }) => {
     const page = await shown(open, DATA, { width: 1280 });
     await page.click('bus-zoom-all');
     await drawn(page);
     const [sender, receiver] = await fields(page);
-    // start, identifier, RTR, IDE, r0, DLC, data, check sequence, its delimiter, ACK slot, ACK delimiter, end of frame
+    // start, identifier, RTR, IDE, r0, DLC, data, CRC sequence, its delimiter, ACK slot, ACK delimiter, end of frame
     assert.deepEqual(sender.names, [0, 1, 3, 5, 7, 8, 9, 10, 11, 12, 13, 14]);
     assert.deepEqual(receiver.names, sender.names);
     for (const label of ['Identifier 0x555', 'DLC 0x2', 'Data 0xaa55', 'EOF']) assert.ok(sender.labels.some((one) => one === label || (label === 'EOF' && /EOF|End of frame/.test(one))), `${label} among ${sender.labels.join(', ')}`);
     assert.ok(sender.labels.some((one) => one.startsWith('CRC')), sender.labels.join(', '));
-    // no stuff bit but behind the five dominant levels from RTR on
+    // the only stuff bit is after the five dominant levels from RTR on
     const wire = (await report(page)).split('\n')[1];
     assert.equal(wire.slice(12, 18), '000001');
     assert.equal(sender.hatched.split(' ')[0], '17');
@@ -119,7 +119,7 @@ export const busViewTests = [
     assert.deepEqual(loser.names.slice(0, 12), winner.names.slice(0, 12));
     assert.equal(loser.hatched.split(' ')[0], '5');
   }],
-  ['a start of frame is told as what it is', async ({ open }) => {
+  ['a start of frame is named as such', async ({ open }) => {
     const page = await shown(open, `version = 1\nbits = 60\n${PAIR}\n[[port]]\n`);
     assert.deepEqual(await rows(page), [
       ['Port 0', 'start of frame', 'sender', 'dominant', 'dominant', '0', '0', 'begins its frame'],
@@ -180,8 +180,8 @@ export const busViewTests = [
     await page.run(() => { for (const port of document.querySelectorAll('.port-end')) port.open = true; });
     await page.until("document.querySelectorAll('#bus-ends li').length === 53");
     const words = () => page.run(() => [...document.querySelectorAll('.port-end')].map((port) => port.textContent));
-    assert.match((await words())[0], /Shown are 50 of 600 entries; all stand in the report, which can be downloaded below/);
-    assert.match((await words())[1], /3 entries in its log, 597 more missed.*The log had no room for 597 more\./);
+    assert.match((await words())[0], /Shown are 50 of 600 entries; all are in the report, which can be downloaded below/);
+    assert.match((await words())[1], /3 entries in its log, 597 more missed.*The log had no space for 597 more\./);
     await page.run(() => document.querySelector('[data-more]').click());
     await page.run(() => document.querySelector('[data-more]').click());
     assert.equal(await page.get("document.querySelectorAll('.port-end li').length"), 603);

@@ -30,7 +30,7 @@ const answered = (page) => page.run(() => {
   return { took: Number(took), answers: Number(answers) };
 });
 
-/** The answer's text, as it is downloaded. */
+/** The text of the output, as it is downloaded. */
 const answer = (page) => page.run(async () => {
   let blob;
   URL.createObjectURL = (given) => { blob = given; return 'data:,'; };
@@ -45,14 +45,14 @@ const faultLevel = (page) => page.run(() => {
   return level ? level.getAttribute('aria-label') : '';
 });
 
-/** Each kind of fault: a trace worked out by hand, its line, where the picture shows it, and the words. */
+/** Each kind of fault: a trace made by hand, its line, where the picture shows it, and the words. */
 const FAULTS = [
-  // the levels end behind 20 of the frame's
+  // the levels end after 20 of the frame's
   [IDLE + WIRE.slice(0, 20), '11 fault C1 at 31', 'Place 31: the levels have ended; here the fault shows', /Frame cut short.*more were expected/],
   // the sixth dominant level in a row
   [`${IDLE}000000${IDLE}`, '11 fault C3 at 16', 'Level 16: 0, dominant; stuff bit in: Identifier; here the fault shows', /Stuff error.*stuff bit of the other value/],
-  // the last bit of the check sequence is inverted
-  [`${IDLE}${WIRE.slice(0, 39)}1${WIRE.slice(40)}${IDLE}`, '11 fault C4 at 50', 'Level 50: 1, recessive; CRC sequence; here the fault shows', /CRC error.*check sequence/],
+  // the last bit of the CRC sequence is inverted
+  [`${IDLE}${WIRE.slice(0, 39)}1${WIRE.slice(40)}${IDLE}`, '11 fault C4 at 50', 'Level 50: 1, recessive; CRC sequence; here the fault shows', /CRC error.*another CRC sequence/],
   // a dominant CRC delimiter
   [`${IDLE}${WIRE.slice(0, 40)}0${WIRE.slice(41)}${IDLE}`, '11 fault C5 at 51', 'Level 51: 0, dominant; CRC delimiter; here the fault shows', /Form error.*recessive level was expected/],
   // a dominant second level of the end of frame
@@ -60,7 +60,7 @@ const FAULTS = [
 ];
 
 export const decodeTests = [
-  ['the example has the answer that canbit gives', async ({ open, examples, work }) => {
+  ['the example has the output of canbit', async ({ open, examples, work }) => {
     const page = await shown(open, readFileSync(join(examples, 'trace.txt'), 'utf8'));
     const lines = readFileSync(join(work, 'trace.txt.answer'), 'utf8');
     assert.equal(await answer(page), lines);
@@ -95,11 +95,11 @@ export const decodeTests = [
     assert.deepEqual([digits, stuffed], [WIRE, '.....^.....^.....^.....^.....^.....^..............']);
     assert.deepEqual([numbers[0], numbers[4], numbers[5]], ['11', '15', '']);
   }],
-  ['a byte that is no level is told by its place', async ({ open }) => {
+  ['a byte that is no level is shown with its place', async ({ open }) => {
     const page = await shown(open, `${IDLE}${WIRE}11x1`);
     assert.deepEqual(await told(page), {
       whole: '1 frame and 0 faults in 63 levels', marked: 'x', words: '1 of 1: a frame at 11: S 000 D 0, not acknowledged.',
-      fault: `Byte 63 is no level: 0, 1, a blank or a line end was expected. ${(IDLE + WIRE).slice(39)}11x1 Shown is what stands before it.`,
+      fault: `Byte 63 is no level: 0, 1, a space or a line end was expected. ${(IDLE + WIRE).slice(39)}11x1 The text before it is shown.`,
     });
     await page.fill('trace-text', '2');
     assert.match((await told(page)).fault, /^Byte 0 is no level/);
@@ -166,7 +166,7 @@ export const decodeTests = [
     await page.fill('trace-text', IDLE + WIRE);
     assert.equal((await told(page)).fault, '');
   }],
-  ['the longest answer has room', async ({ open, work }) => {
+  ['there is space for the longest output', async ({ open, work }) => {
     // a stuff error each seventeen levels
     writeFileSync(join(work, 'faults.txt'), `000000${IDLE}`.repeat(Math.floor((10 * 1024 * 1024) / 17)));
     const page = await shown(open);

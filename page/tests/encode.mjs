@@ -1,4 +1,4 @@
-// The view Encode: the examples against canbit, rows worked out by hand, and wrong input of every kind.
+// The view Encode: the examples against canbit, hand-computed test vectors, and wrong input of every kind.
 import assert from 'node:assert/strict';
 import { readFileSync } from 'node:fs';
 import { join } from 'node:path';
@@ -19,7 +19,7 @@ const picture = (page, room = 'encode-wire') => page.run((id) => {
   };
 }, room);
 
-/** The fault that is told, and the place that is marked. */
+/** The fault that is shown, and the place that is marked. */
 const fault = (page) => page.run(() => {
   const told = document.getElementById('encode-fault');
   return {
@@ -28,14 +28,14 @@ const fault = (page) => page.run(() => {
   };
 });
 
-/** A frame text, and its levels and stuff bits as they were worked out by hand. */
+/** A frame text, and its levels and stuff bits, computed by hand. */
 const BY_HAND = [
   ['S 000 D 0', '00000100000100000100000100000100000100001111111111', '.....^.....^.....^.....^.....^.....^..............',
     ['SOF', 'Identifier', 'RTR', 'IDE', 'r0', 'DLC', 'CRC sequence', 'DEL', 'ACK', 'DEL', 'End of frame']],
 ];
 
 export const encodeTests = [
-  ['every example has the levels that canbit tells', async ({ open, examples, work }) => {
+  ['every example has the levels that canbit prints', async ({ open, examples, work }) => {
     const page = await open();
     const texts = readFileSync(join(examples, 'frames.txt'), 'utf8').trim().split('\n');
     const answers = readFileSync(join(work, 'frames.txt.answer'), 'utf8').trim().split('\n');
@@ -50,7 +50,7 @@ export const encodeTests = [
       assert.equal((await fault(page)).text, '', text);
     }
   }],
-  ['a frame has the fields and stuff bits that were worked out by hand', async ({ open }) => {
+  ['a frame has the hand-computed fields and stuff bits', async ({ open }) => {
     const page = await open({ width: 1400 });
     for (const [text, digits, stuffed, labels] of BY_HAND) {
       await page.fill('frame-text', text);
@@ -70,7 +70,7 @@ export const encodeTests = [
     // 0x18db33f1 is 0x636 and, in its lower 18 bits, 0x333f1
     assert.deepEqual([rows[1][3], rows[4][3], rows[8][3], rows[9][3], rows[14][3]], ['0x636of 0x18db33f1 (29 bits)', '0x333f1of 0x18db33f1 (29 bits)', '0x8', '0x02010c0000000000', '0x7f']);
   }],
-  ['numbers have as many digits as their levels fill, and bytes stand apart', async ({ open }) => {
+  ['numbers have as many digits as their levels fill, and bytes are separated', async ({ open }) => {
     const page = await open();
     await page.fill('frame-text', 'S 001 D 2 0001');
     const rows = await page.run(() => [...document.querySelectorAll('#encode-fields tr')].map((row) => [...row.children].slice(0, 4).map((cell) => cell.textContent)));
@@ -132,14 +132,14 @@ export const encodeTests = [
       assert.deepEqual([told.invalid, told.shown], [[where], false], value);
     }
   }],
-  ['a level that is pointed at or focused is told with its rule', async ({ open }) => {
+  ['a level that is pointed at or focused is described with its rule', async ({ open }) => {
     const page = await open();
     await page.fill('frame-text', 'S 000 D 0');
     const words = () => page.get("document.getElementById('encode-level').textContent");
     assert.match(await words(), /^Level 0: 0, dominant; Start of frame\. One dominant level/);
     await page.run(() => document.querySelector('#encode-wire .level').focus());
     for (let step = 0; step < 5; step += 1) await page.key('ArrowRight');
-    assert.match(await words(), /^Level 5: 1, recessive; stuff bit in: Identifier\. Stuff bit: behind five equal levels/);
+    assert.match(await words(), /^Level 5: 1, recessive; stuff bit in: Identifier\. Stuff bit: after five equal levels/);
     assert.equal(await page.get("document.activeElement.getAttribute('aria-label')"), 'Level 5: 1, recessive; stuff bit in: Identifier');
     await page.key('End');
     assert.match(await words(), /^Level 49: 1, recessive; End of frame\./);

@@ -213,7 +213,7 @@ def jump(entry: str, width: str) -> str:
 
 
 def places() -> Iterator[str]:
-    """Jumps by tables, and what stands in data."""
+    """Jump tables, and addresses in data."""
     yield jump("ldrb w9, [x6, x5]", ".byte")
     yield jump("ldrh w9, [x6, x5, lsl #1]", ".hword")
     number = '.section .rodata.NAME,"a"\n.p2align 4\n.quad 5, 6\n9: .quad 0x123456789abcdef0, 77\n'

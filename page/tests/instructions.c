@@ -1,6 +1,6 @@
 /*
- * Plays each form of an instruction (instructions) over the same made registers and memory, and writes what it leaves: as
- * a program of AArch64, and as a module of WebAssembly, for which page/translate wrote the forms.
+ * Runs each form of an instruction (instructions) on the same generated registers and memory, and writes the results:
+ * as a program of AArch64, and as a module of WebAssembly, for which page/translate wrote the forms.
  */
 #include "forms.h" /* FORM_COUNT and forms, each a function of what it reads and what it writes */
 
@@ -77,7 +77,7 @@ static double made_fraction(void)
   return (double)(1 + (chance() >> 4 >> chance() % 59)) * sign;
 }
 
-/* What a form reads: whole numbers, at some rounds equal ones; fractions behind 128 bytes; what is none behind 256. */
+/* The inputs of a form: integers, in some rounds equal ones; floating-point numbers from byte 128, NaN from 256. */
 static void make(int round)
 {
   for (int place = 0; place < BYTES / 8; place++) {

@@ -1,4 +1,4 @@
-// Runs instructions.c as a module of WebAssembly, and writes what it tells: instructions.mjs MODULE TOLD
+// Runs instructions.c as a module of WebAssembly, and writes its output: instructions.mjs MODULE TOLD
 import { readFileSync, writeFileSync } from 'node:fs';
 
 const [module, told] = process.argv.slice(2);

@@ -1,14 +1,14 @@
-// Limits of time. On a machine that others use too, page/check --patient gives ten times as long, and five times where a processor's time counts.
+// Time limits. On a machine with other work, page/check --patient allows ten times the limits, and five times those of processor time.
 import assert from 'node:assert/strict';
 
 const PATIENCE = Number(process.env.PAGE_PATIENCE ?? 1);
 
-/** So long, in milliseconds of a processor, no task of a page takes; and so many times as long it may at most. */
+/** The most processor milliseconds of a task of a page; and the factor that is allowed at most. */
 const LONGEST_TASK = 50;
 const MOST_PATIENCE = 5;
 
 /**
- * Fails where something took too long.
+ * Fails if something took too long.
  * @param {string} what
  * @param {number} took in milliseconds
  * @param {number} limit in milliseconds
@@ -18,7 +18,7 @@ export function within(what, took, limit) {
 }
 
 /**
- * Fails where a page was blocked for too long.
+ * Fails if a page was blocked for too long.
  * @param {number} longest task, in milliseconds of a processor
  */
 export function unblocked(longest) {

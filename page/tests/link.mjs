@@ -60,7 +60,7 @@ export const linkTests = [
     await other.until("document.getElementById('network-told').textContent.includes('1 of 1 message late')");
     await other.close();
   }],
-  ['the address follows the view, and is plain where that is as it begins', async ({ open }) => {
+  ['the address follows the view, and is plain if the view is as it begins', async ({ open }) => {
     const page = await open();
     await page.fill('frame-text', 'S 7ff D 0');
     await page.until("location.hash === '#encode&frame=S+7ff+D+0&level=0'");

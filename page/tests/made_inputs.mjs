@@ -1,4 +1,4 @@
-// Made inputs for the calls of the module: frames, traces and documents, right ones and such as have a few letters changed.
+// Generated inputs for the calls of the module: frames, traces and documents, correct ones and ones with a few letters changed.
 // The same come each time.
 
 /** Numbers that look like chance. */
@@ -56,7 +56,7 @@ export function changed(chance, text) {
   return now;
 }
 
-/** A document with some of its lines put elsewhere, or told twice, and then perhaps letters changed. */
+/** A document with some of its lines moved or repeated, and then perhaps letters changed. */
 export function changedDocument(chance, text) {
   const lines = text.split('\n');
   if (chance.below(3) === 0) {
@@ -67,7 +67,7 @@ export function changedDocument(chance, text) {
   return changed(chance, lines.join('\n'));
 }
 
-/** The text of a trace: frames' levels with idle between them, some levels turned, some blanks and line ends. */
+/** The text of a trace: frames' levels with idle between them, some levels inverted, some spaces and line ends. */
 export function madeTrace(chance, wires, count) {
   const parts = [];
   for (let left = count; left > 0; left -= 1) {

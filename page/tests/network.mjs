@@ -1,4 +1,4 @@
-// The view Network: the examples against canplan, bars worked out by hand, the table, files, and many messages.
+// The view Network: the examples against canplan, bars computed by hand, the table, files, and many messages.
 import assert from 'node:assert/strict';
 import { readFileSync, readdirSync, writeFileSync } from 'node:fs';
 import { join } from 'node:path';
@@ -28,7 +28,7 @@ deadline = 240
 `;
 
 export const networkTests = [
-  ['every example of a network has the answer of canplan', async ({ open, examples }) => {
+  ['every example of a network has the output of canplan', async ({ open, examples }) => {
     const folder = join(examples, 'networks');
     const page = await networkShown(open);
     assert.deepEqual(await page.get("[...document.querySelectorAll('#network-examples option')].slice(1).map((option) => option.value)"), names(folder));
@@ -55,12 +55,12 @@ export const networkTests = [
       assert.equal(await saved(page, 'network-download'), readFileSync(join(folder, `${name}.answer`), 'utf8'), name);
     }
   }],
-  ['bounds and deadlines are shown as they were worked out by hand', async ({ open }) => {
+  ['bounds and deadlines are shown as computed by hand', async ({ open }) => {
     const page = await networkShown(open, EDGES);
     assert.deepEqual(await bounds(page), [
       ['S 100 D 7', '122', '121', '240', '240', 'ok, slack 0'], ['S 200 D 7', '121', '121', '361', '360', '▲ late'], ['S 300 D 7', '122', '0', '422', '200', '▲ late'],
     ]);
-    assert.match(await page.get("document.getElementById('network-told').textContent"), /^Load 0\.971, 2 of 3 messages late: deadlines missed\. Answered in \d+ ms\.$/);
+    assert.match(await page.get("document.getElementById('network-told').textContent"), /^Load 0\.971, 2 of 3 messages late: deadlines may be missed\. Answered in \d+ ms\.$/);
     assert.equal(await page.get("document.getElementById('network-borne').textContent"), 'No hits: the document has no errors.');
     const bars = await page.run(() => [...document.querySelectorAll('#network-bounds .bar')].map((bar) => ['bound', 'beyond', 'cut'].map((part) => bar.querySelector(`.${part}`)?.getAttribute('width') ?? bar.querySelectorAll(`.${part}`).length)));
     // the deadline is at 48 %, and 361 of 360 go 0.3 % beyond it, of which 2 % are drawn; 422 of 200 are cut at 96 %
@@ -75,15 +75,15 @@ export const networkTests = [
     assert.equal(await networkText(page), 'version = 1\n\n[[message]]\nname = " Engine speed"\nframe = "S 000 D"\nperiod = 500\n\n[[message]]\nname = "Brake"\nframe = "S 001 D"\nperiod = 500\n');
     assert.deepEqual(await names(), [' Engine speed', 'Brake']);
   }],
-  ['a message with no bound is late, and told so', async ({ open }) => {
+  ['a message with no bound is shown as late', async ({ open }) => {
     const page = await networkShown(open, 'version = 1\n[[message]]\nframe = "S 000 D"\nperiod = 100\n[[message]]\nframe = "S 001 D"\nperiod = 5000000\n');
     assert.deepEqual((await bounds(page)).map(([, , , bound, , outcome]) => [bound, outcome]), [['none', '▲ late'], ['none', '▲ late']]);
     assert.equal(await page.get("document.querySelectorAll('#network-bounds .cut').length"), 2);
   }],
-  ['for how long hits are borne is told', async ({ open }) => {
+  ['the time for which hits are tolerated is shown', async ({ open }) => {
     const page = await networkShown(open);
     const rows = [
-      ['burst = 1\nspacing = 10000', /^Hits are borne for 149,999 bit times: at most 15/], ['burst = 15', /^Hits are borne for ever/], ['', /^Hits are borne for ever/], ['burst = 16', /^Hits are not borne/],
+      ['burst = 1\nspacing = 10000', /^Hits are tolerated for 149,999 bit times: at most 15/], ['burst = 15', /^Hits are always tolerated/], ['', /^Hits are always tolerated/], ['burst = 16', /^Hits may not be tolerated/],
     ];
     for (const [errors, words] of rows) {
       await fillNetwork(page, 'network-text', `version = 1\n[errors]\n${errors}\n[[message]]\nframe = "S 000 D"\nperiod = 1000\n`);

@@ -1,4 +1,4 @@
-// What is wrong in a network is told where it is.
+// What is wrong in a network is shown with its place.
 import assert from 'node:assert/strict';
 import { fillNetwork, many, networkFault, networkShown } from './network_page.mjs';
 
@@ -31,7 +31,7 @@ const WRONG = [
 ];
 
 export const networkFaultTests = [
-  ['each kind of wrong field of a network is told at its place, and marked where the form has it', async ({ open }) => {
+  ['each kind of wrong field of a network is shown with its place, and marked if the form has it', async ({ open }) => {
     const page = await networkShown(open);
     for (const [text, code, place, fields] of WRONG) {
       await fillNetwork(page, 'network-text', text);
@@ -46,7 +46,7 @@ export const networkFaultTests = [
     await fillNetwork(page, 'network-text', GOOD);
     assert.deepEqual(await networkFault(page), { text: '', shown: true, invalid: [] });
   }],
-  ['a wrong name of a network is told, and so is what is wrong in a frame', async ({ open }) => {
+  ['a wrong name of a network is shown, and what is wrong in a frame', async ({ open }) => {
     const page = await networkShown(open);
     const rows = [
       [`speed = 1\n${GOOD}`, 'key', /The name is “speed”\./],

@@ -40,7 +40,7 @@ export const saved = (page, button) => page.run(async (id) => {
 /** The rows of bounds, each its cells. */
 export const bounds = (page) => page.run(() => [...document.querySelectorAll('#network-bounds tr')].map((row) => [...row.children].slice(0, 6).map((cell) => cell.textContent)));
 
-/** Asks for the worst case of a message by the button in its row, and waits until it is run, or it is told why there is none. */
+/** Asks for the worst case of a message by the button in its row, and waits until it is run, or the reason is shown why there is none. */
 export async function askWorst(page, frame) {
   const row = `[...document.querySelectorAll('#network-bounds tr')].find((row) => row.children[0].firstChild.textContent === '${frame}')`;
   await page.get(`${row}.querySelector('.worst button').click()`);
@@ -55,7 +55,7 @@ export const networkFault = (page) => page.run(() => ({
   invalid: [...document.querySelectorAll('#panel-network [aria-invalid=true]')].map((field) => field.id),
 }));
 
-/** A network of so many messages, of which each has a period ten times as long as all of them take. */
+/** A network with this number of messages; each has a period ten times as long as all of them take. */
 export function many(count) {
   const message = (place) => `[[message]]\nframe = "E ${(count - place).toString(16).padStart(8, '0')} D"\nperiod = ${count * 1600}\njitter = ${place}\n`;
   return `version = 1\n\n${Array.from({ length: count }, (_, place) => message(place)).join('\n')}`;

@@ -19,7 +19,7 @@ export const pageTests = [
     const page = await open();
     const refused = await page.run(() => fetch('https://example.org/').then(() => false, () => true));
     assert.equal(refused, true);
-    page.errors.length = 0; // the browser tells the refusal, as it should
+    page.errors.length = 0; // the browser reports the refusal, as it should
   }],
   ['the first paint comes within a second', async ({ open }) => {
     const page = await open();
@@ -28,17 +28,17 @@ export const pageTests = [
     const paint = await page.run(() => performance.getEntriesByName('first-contentful-paint')[0].startTime);
     within('the first paint', paint, 1000);
   }],
-  ['a browser that refuses the module is told so', async ({ open }) => {
+  ['a message is shown if the browser refuses the module', async ({ open }) => {
     const page = await open({ before: 'WebAssembly.validate = () => false;' });
     const [text, role, views] = await page.run(() => [refused.textContent, refused.getAttribute('role'), document.getElementById('views').hidden]);
     assert.match(text, /can’t run the proved code/);
     assert.deepEqual([role, views], ['alert', true]);
   }],
-  ['a browser without WebAssembly is told so', async ({ open }) => {
+  ['a message is shown if the browser has no WebAssembly', async ({ open }) => {
     const page = await open({ before: 'delete globalThis.WebAssembly;' });
     assert.match(await page.get('refused.textContent'), /can’t run the proved code/);
   }],
-  ['a browser that cannot unpack the module is told so', async ({ open }) => {
+  ['a message is shown if the browser cannot unpack the module', async ({ open }) => {
     const page = await open({ before: 'delete globalThis.DecompressionStream;' });
     assert.match(await page.get('refused.textContent'), /can’t run the proved code/);
   }],
@@ -51,7 +51,7 @@ export const pageTests = [
     assert.equal(await other.get("document.getElementById('panel-decode').hidden"), false);
     await other.close();
   }],
-  ['the box of examples names what is shown, and none where that is changed', async ({ open, work }) => {
+  ['the box of examples names what is shown, and none if that is changed', async ({ open, work }) => {
     const page = await open();
     const named = (box) => page.run((id) => document.getElementById(id).selectedOptions[0]?.textContent, box);
     assert.equal(await named('examples'), 'S 123 D 2 aa55');

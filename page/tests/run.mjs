@@ -1,5 +1,5 @@
-// Tries the page: run.mjs CHROMIUM PAGE EXAMPLES WORK. WORK has the answers of canbit, and native.c as a program. PAGE_TEST, a regular expression, names
-// tests, where not all are to run.
+// Tests the page: run.mjs CHROMIUM PAGE EXAMPLES WORK. WORK has the outputs of canbit, and native.c as a program. PAGE_TEST is a regular expression for the
+// names of the tests to run (default: all).
 import { pathToFileURL } from 'node:url';
 import { Browser } from './browser.mjs';
 import { accessTests } from './access.mjs';

@@ -7,7 +7,7 @@ const NOTE = 'watched';
 /**
  * @param {import('./browser.mjs').Page} page
  * @param {() => Promise<T>} action
- * @returns {Promise<{done: T, longest: number}>} what the action gives, and the longest task of the page meanwhile, in milliseconds
+ * @returns {Promise<{done: T, longest: number}>} what the action gives, and the longest task of the page in that time, in milliseconds
  * @template T
  */
 export async function longestTask(page, action) {

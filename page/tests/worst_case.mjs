@@ -1,4 +1,4 @@
-// The worst case of a message of a network, shown in the view Bus: against canplan, and by numbers worked out by hand.
+// The worst case of a message of a network, shown in the view Bus: against canplan, and with hand-computed numbers.
 import assert from 'node:assert/strict';
 import { readFileSync, readdirSync } from 'node:fs';
 import { join } from 'node:path';
@@ -11,17 +11,17 @@ const THREE = `version = 1\n${[['100', 303], ['200', 427], ['300', 427]].map(([i
 /** A message alone, whose frame keeps the bus for 53 bit times, three of them of intermission. */
 const LONE = 'version = 1\n[[message]]\nframe = "S 000 D"\ndlc = 0\nperiod = 1000\n';
 
-/** A network, a message of it, and what is told of its worst case. */
+/** A network, a message of it, and the words about its worst case. */
 const TOLD = [
   // its second frame is released at 428, starts at 731 and ends before 850
-  [THREE, 'S 300 D 7', 'its latest frame, of port 2, is offered before bit time 428 and ends with bit time 849, 422 bit times behind its offer, which is its bound.'],
-  [LONE, 'S 000 D 0', 'its latest frame, of port 0, is offered before bit time 1 and ends with bit time 50, 50 bit times behind its offer, which is its bound.'],
-  [`${LONE}jitter = 5\n`, 'S 000 D 0', 'its latest frame, of port 0, is offered before bit time 1 and ends with bit time 50, 50 bit times behind its offer. Its bound, 55, counts its jitter too.'],
+  [THREE, 'S 300 D 7', 'its latest frame, of port 2, is offered before bit time 428 and ends with bit time 849, 422 bit times after its offer, which is its bound.'],
+  [LONE, 'S 000 D 0', 'its latest frame, of port 0, is offered before bit time 1 and ends with bit time 50, 50 bit times after its offer, which is its bound.'],
+  [`${LONE}jitter = 5\n`, 'S 000 D 0', 'its latest frame, of port 0, is offered before bit time 1 and ends with bit time 50, 50 bit times after its offer. Its bound, 55, also counts its jitter.'],
   // a hit costs 13 bit times more than the frame keeps the bus
-  [`${LONE}[errors]\nburst = 1\n`, 'S 000 D 0', 'its latest frame, of port 0, is offered before bit time 1 and ends with bit time 50, 50 bit times behind its offer. Its bound, 116, counts its jitter and hits too.'],
+  [`${LONE}[errors]\nburst = 1\n`, 'S 000 D 0', 'its latest frame, of port 0, is offered before bit time 1 and ends with bit time 50, 50 bit times after its offer. Its bound, 116, also counts its jitter and hits.'],
 ];
 
-/** What is told of the worst case that is shown. */
+/** The words about the worst case that is shown. */
 const told = (page) => page.get("document.getElementById('bus-worst').textContent");
 
 /** The names of the views that are seen. */
@@ -42,14 +42,14 @@ export const worstCaseTests = [
       await page.click('tab-network');
     }
   }],
-  ['the latest frame of a worst case is gone to, and told as it was worked out by hand', async ({ open }) => {
+  ['the view goes to the latest frame of a worst case, and describes it as computed by hand', async ({ open }) => {
     const page = await networkShown(open);
     for (const [network, frame, words] of TOLD) {
       await page.click('tab-network');
       await fillNetwork(page, 'network-text', network);
       assert.equal(await askWorst(page, frame), '', frame);
       assert.deepEqual(await seen(page), ['panel-bus']);
-      assert.equal(await told(page), `The worst case of ${frame}, where nothing is hit: ${words}`);
+      assert.equal(await told(page), `The worst case of ${frame} without hits: ${words}`);
       assert.equal(await time(page), Number(/bit time (\d+), /.exec(words)[1]));
       assert.equal(await page.get('document.activeElement.id'), 'bus-picture');
     }
@@ -70,9 +70,9 @@ export const worstCaseTests = [
     const page = await networkShown(open, many(70));
     await page.click('network-bounds-on');
     assert.equal(await askWorst(page, 'E 00000046 D 8'), '');
-    assert.match(await told(page), /: its latest frame, of port 63, is offered before bit time 1 and ends with bit time [\d,]+, [\d,]+ bit times behind its offer, which is its bound\.$/);
+    assert.match(await told(page), /: its latest frame, of port 63, is offered before bit time 1 and ends with bit time [\d,]+, [\d,]+ bit times after its offer, which is its bound\.$/);
   }],
-  ['where no scenario is long enough for a worst case the page says so', async ({ open }) => {
+  ['a message is shown if no scenario is long enough for a worst case', async ({ open }) => {
     const page = await networkShown(open, 'version = 1\n[[message]]\nframe = "S 000 D"\nperiod = 100\n[[message]]\nframe = "S 001 D"\nperiod = 5000000\n');
     for (const frame of ['S 000 D 8', 'S 001 D 8']) assert.match(await askWorst(page, frame), /^No scenario is long enough: the bus is busy .* for more than 999,999 bit times, or for ever\.$/);
     assert.deepEqual(await seen(page), ['panel-network']);

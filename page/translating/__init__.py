@@ -1,1 +1,1 @@
-"""Writes an object of AArch64 as C: what page/translate does, by concern."""
+"""Translates an object file of AArch64 to C, for page/translate."""

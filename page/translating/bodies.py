@@ -1,4 +1,4 @@
-"""A function as C: each instruction a statement or a few, in their order, with labels where branches lead."""
+"""A function as C: each instruction as one or more statements, in the same order, with labels at branch targets."""
 
 from __future__ import annotations
 
@@ -19,12 +19,12 @@ from translating.refusal import Refused
 PAGE, PLACE_FOR_SUM, JUMP, CALL = 275, 277, 282, 283
 PLACES_FOR_ACCESS = (278, 284, 285, 286, 299)
 
-# what other objects have, which machine.h knows
+# symbols of other objects, which machine.h defines
 OUTSIDE = ("memcpy", "memmove", "memset", "memcmp", "bcmp", "rattle_alloc", "rattle_realloc", "rattle_dealloc")
 
 
 def writer_of(i: Instruction) -> Writer:
-    """What writes an instruction: those of vectors and those of whole numbers share names."""
+    """The function that writes an instruction; vector and integer instructions share names."""
     if i.name in memory.WRITERS:
         return memory.WRITERS[i.name]
     is_vector = any(isinstance(operand, (Part, Lanes)) for operand in i.operands)
@@ -35,7 +35,7 @@ def writer_of(i: Instruction) -> Writer:
 
 
 class Body:
-    """What stands between the braces of a function."""
+    """The text between the braces of a function."""
 
     def __init__(self, image: Image, function: Function) -> None:
         self.image, self.function = image, function
@@ -85,7 +85,7 @@ class Body:
         raise Refused(f"the relocation {kind} is not known here")
 
     def _relocated_access(self, i: Instruction) -> list[str]:
-        """A load or a store in whose address a linker would fill in the place in a page."""
+        """A load or a store; a linker would fill in the offset in the page in its address."""
         address, relocation = i.operands[-1], i.relocation
         if relocation is None or not isinstance(address, Address) or self.image.function(relocation) is not None:
             raise Refused("its address is not known here")
@@ -130,9 +130,9 @@ class Body:
         return self._goto_if(i, f"({i.whole(0).read()} >> {i.number(1)} & 1) {'==' if i.name == 'tbz' else '!='} 0")
 
     def _place(self, i: Instruction) -> list[str]:
-        """The place that a jump's table adds to: a number of the function's own, which nothing else may use."""
+        """The place to which a jump table adds: a number of this function, which nothing else may use."""
         if i.at not in self.bases:
-            raise Refused("a place that no jump by a table adds to")
+            raise Refused("a place that no jump table adds to")
         return i.whole(0).write(f"{self.bases[i.at]}")
 
     def _jump(self, i: Instruction) -> list[str]:

@@ -1,4 +1,4 @@
-"""Whether vectors cross calls, which functions here don't pass: none is a parameter, and none is a result."""
+"""Whether vectors cross calls. Functions here pass none: no vector is a parameter or a result."""
 
 from __future__ import annotations
 
@@ -7,23 +7,23 @@ from translating.jumps import Jump
 from translating.operands import Immediate, Lanes, Listed, Operand, Part
 from translating.refusal import Refused
 
-# A function finds the caller's v8 to v15 in these registers, of which it may save the lower halves (Procedure Call
-# Standard, 6.1.2). In the others it finds nothing that it may read but parameters, and behind a call but results.
+# At its start a function has the caller's v8 to v15 in these registers, and may save their lower halves (Procedure Call
+# Standard, 6.1.2). Of the others it may read only parameters, and after a call only results.
 UNSET = frozenset(range(32)) - frozenset(range(8, 16))
-# what changes a part of its first operand
+# instructions that change a part of their first operand
 CHANGES = ("bsl", "bit", "bif")
 ENDS = ("b", "br", "ret", "brk", "udf")
 
 
 def vectors(operand: Operand) -> set[int]:
-    """The vectors' registers that an operand names."""
+    """The vector registers that an operand names."""
     if isinstance(operand, (Part, Lanes)):
         return {operand.number}
     return {lanes.number for lanes in operand.lanes} if isinstance(operand, Listed) else set()
 
 
 def reads_and_writes(i: Instruction) -> tuple[set[int], set[int]]:
-    """The vectors' registers that an instruction reads, and those of which it writes all."""
+    """The vector registers that an instruction reads, and those that it overwrites completely."""
     named = [vectors(operand) for operand in i.operands]
     written = 0 if i.name.startswith("st") else 2 if i.name in ("ldp", "ldnp") else 1
     if i.operands and not i.name.startswith("st"):
@@ -38,7 +38,7 @@ def reads_and_writes(i: Instruction) -> tuple[set[int], set[int]]:
 
 
 def followers(i: Instruction, place: int, jumps: dict[int, Jump]) -> list[int]:
-    """The instructions, by their numbers, that may come behind one."""
+    """The numbers of the instructions that may follow one."""
     found = [] if i.name in ENDS else [place + 1]
     if i.is_branch and i.relocation is None:
         found.append(i.target // 4)
@@ -48,7 +48,7 @@ def followers(i: Instruction, place: int, jumps: dict[int, Jump]) -> list[int]:
 
 
 def refuse_crossing(function: Function, jumps: dict[int, Jump]) -> None:
-    """Refuses a function that may read a vector's register as it found it, or as a call left it."""
+    """Refuses a function that may read a vector register before it writes it, or after a call."""
     if not any(vectors(operand) for i in function.instructions for operand in i.operands):
         return
     unset: list[frozenset[int] | None] = [None] * len(function.instructions)

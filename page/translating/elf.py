@@ -12,7 +12,7 @@ SECTION_ROW = struct.Struct("<IIQQQQIIQQ")
 SYMBOL_ROW = struct.Struct("<IBBHQQ")
 RELOCATION_ROW = struct.Struct("<QQq")
 
-# the machine, and kinds of sections and of symbols, by the numbers that the format has for them
+# the numbers of the format for the machine, and for kinds of sections and symbols
 AARCH64 = 183
 BYTES, SYMBOLS, RELOCATIONS, ZEROS = 1, 2, 4, 8
 IN_MEMORY, CODE = 2, 4
@@ -41,13 +41,13 @@ class Section:
 
     @property
     def is_data(self) -> bool:
-        """Whether it has data that stand in memory."""
+        """Whether it has data in memory."""
         return self.kind in (BYTES, ZEROS) and bool(self.flags & IN_MEMORY) and not self.flags & CODE
 
 
 @dataclass(frozen=True)
 class Symbol:
-    """A place in a section, or a name of another object."""
+    """A symbol: a place in a section, or a name in another object."""
 
     name: str
     section: int
@@ -56,13 +56,13 @@ class Symbol:
 
     @property
     def is_outside(self) -> bool:
-        """Whether another object has it."""
+        """Whether it is in another object."""
         return self.section == UNDEFINED
 
 
 @dataclass(frozen=True)
 class Relocation:
-    """What a linker puts at a place: its kind by the manual's number, and a symbol's address with so much added."""
+    """A relocation at a place: its kind, by the number in the manual, its symbol, and what is added to the address."""
 
     kind: int
     symbol: Symbol
@@ -70,7 +70,7 @@ class Relocation:
 
     @property
     def place(self) -> int:
-        """Where in the symbol's section it leads."""
+        """The place in the section of the symbol to which it leads."""
         return self.symbol.value + self.added
 
 
@@ -87,19 +87,19 @@ class ElfObject:
         self.relocations = self._read_relocations()
 
     def contents(self, section: Section) -> bytes:
-        """What stands in a section."""
+        """The contents of a section."""
         if section.kind == ZEROS:
             return bytes(section.size)
         return self.bytes[section.offset : section.offset + section.size]
 
     def relocations_of(self, section: Section) -> dict[int, Relocation]:
-        """What a linker puts into a section, by the places."""
+        """The relocations of a section, by place."""
         return self.relocations.get(section.number, {})
 
     def section_of(self, symbol: Symbol) -> Section:
-        """The section that a symbol stands in."""
+        """The section of a symbol."""
         if symbol.is_outside or symbol.section >= FIRST_RESERVED:
-            raise Refused(f"the symbol {symbol.name} stands in no section")
+            raise Refused(f"the symbol {symbol.name} is in no section")
         return self.sections[symbol.section]
 
     def _text(self, offset: int) -> str:

@@ -1,4 +1,4 @@
-"""The data of an object as one array, and where its symbols stand: in the array, or as functions of C."""
+"""The data of an object as one array, and its symbols: places in the array, or functions of C."""
 
 from __future__ import annotations
 
@@ -7,14 +7,15 @@ from collections.abc import Iterator
 from translating.elf import BYTES, IN_MEMORY, ElfObject, Relocation, Section
 from translating.refusal import Refused
 
-# relocations of data (ELF for the Arm 64-bit Architecture, 5.7.5): an address, and the way to one from where it stands
+# relocations of data (ELF for the Arm 64-bit Architecture, 5.7.5): an address, and the distance to one from the place
+# itself
 ABS64, PREL32 = 257, 261
-# The array begins at a multiple of this in memory, so that its offsets tell where in a page of the machine a place is.
+# The array begins at a multiple of this in memory, so that its offsets determine the offset in a page of the machine.
 PAGE_BYTES = 4096
 
 
 class Image:
-    """The sections of data, one behind another, each aligned as it asks; those of zeros are last."""
+    """The sections of data, one after another, each with its alignment; those of zeros are last."""
 
     def __init__(self, elf: ElfObject) -> None:
         self.elf = elf
@@ -35,7 +36,7 @@ class Image:
             self._relocate(section)
 
     def function(self, relocation: Relocation) -> str | None:
-        """The function that a relocation leads to, by its name in C; none where it leads to data."""
+        """The name in C of the function to which a relocation leads; none if it leads to data."""
         section = self.elf.section_of(relocation.symbol)
         if not section.is_code:
             return None
@@ -44,30 +45,30 @@ class Image:
         return f"f{section.number}"
 
     def offset(self, relocation: Relocation) -> int:
-        """Where in the array a relocation leads to."""
+        """The place in the array to which a relocation leads."""
         section = self._data(relocation)
         if not 0 <= relocation.place <= section.size:
             raise Refused(f"a place in {section.name} that is not in its data")
         return self.offsets[section.number] + relocation.place
 
     def page(self, relocation: Relocation) -> str:
-        """The begin of the page of 4096 bytes in which a place is, as `adrp` has it."""
+        """The beginning of the page of 4096 bytes that has a place, as `adrp` computes it."""
         if name := self.function(relocation):
             return f"ADDRESS({name}) & ~(u64){PAGE_BYTES - 1}"
         return f"ADDRESS(data) + {self.offset(relocation) & -PAGE_BYTES}"
 
     def within_page(self, relocation: Relocation) -> str:
-        """How far behind the begin of its page a place is."""
+        """The offset of a place in its page."""
         if name := self.function(relocation):
             return f"(ADDRESS({name}) & {PAGE_BYTES - 1})"
         return str(self.offset_within_page(relocation))
 
     def offset_within_page(self, relocation: Relocation) -> int:
-        """The same, of data."""
+        """The place in the array to which a relocation of data leads."""
         return self.offset(relocation) & PAGE_BYTES - 1
 
     def text(self) -> Iterator[str]:
-        """The array and its addresses, in C. What is 0 at its end isn't written."""
+        """The array and its addresses, in C. Zeros at its end are not written."""
         written = bytes(self.bytes).rstrip(b"\0")
         yield f"static _Alignas({PAGE_BYTES}) u8 data[{max(len(self.bytes), 1)}] = {{"
         for at in range(0, len(written), 32):
@@ -81,14 +82,14 @@ class Image:
         yield f"enum {{ ADDRESS_COUNT = {len(self.addresses)} }};"
 
     def _data(self, relocation: Relocation) -> Section:
-        """The section of data that a relocation leads to."""
+        """The section of data to which a relocation leads."""
         section = self.elf.section_of(relocation.symbol)
         if section.number not in self.offsets:
             raise Refused(f"{section.name} is no data")
         return section
 
     def _way(self, section: Section, place: int, relocation: Relocation) -> int:
-        """The way to a place from where it is told, or from the begin of the table that tells it, which is a section."""
+        """The distance to a place, from the relocation or from the beginning of its table, which is a section."""
         to = self._data(relocation)
         if not any(0 <= it <= to.size for it in (relocation.place, relocation.place - place)):
             raise Refused(f"a place in {to.name} that is not in its data")

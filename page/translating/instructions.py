@@ -1,4 +1,4 @@
-"""The instructions of an object: what llvm-objdump tells of each, with the relocation at its place."""
+"""The instructions of an object: the output of llvm-objdump for each, with the relocation at its place."""
 
 from __future__ import annotations
 
@@ -29,9 +29,9 @@ CONDITIONAL_BRANCHES = ("cbz", "cbnz", "tbz", "tbnz")
 
 @dataclass(frozen=True)
 class Instruction:
-    """An instruction and where it stands in its section.
+    """An instruction and its place in its section.
 
-    What asks for an operand of a kind is refused where another stands there.
+    A request for an operand of one kind is refused if the operand is of another kind.
     """
 
     at: int
@@ -47,19 +47,19 @@ class Instruction:
         )
 
     def whole(self, place: int) -> Whole:
-        """The register of whole numbers at a place."""
+        """The integer register at a place."""
         return self._operand(place, Whole)
 
     def lanes(self, place: int) -> Lanes:
-        """The vector by lanes at a place."""
+        """The vector with its lanes at a place."""
         return self._operand(place, Lanes)
 
     def part(self, place: int) -> Part:
-        """The part of a vector's register at a place."""
+        """The part of a vector register at a place."""
         return self._operand(place, Part)
 
     def number(self, place: int) -> int:
-        """The whole number at a place."""
+        """The integer at a place."""
         return self._operand(place, Immediate).value
 
     def condition(self, place: int) -> str:
@@ -67,12 +67,12 @@ class Instruction:
         return self._operand(place, Condition).read()
 
     def shift(self, place: int) -> Shift | None:
-        """The shift at a place, if one stands there."""
+        """The shift at a place, if there is one."""
         return self._operand(place, Shift) if place < len(self.operands) else None
 
     @property
     def is_branch(self) -> bool:
-        """Whether it goes to a place that it names itself, always or not."""
+        """Whether it is a branch, conditional or not, with its target as an operand."""
         return self.name == "b" or self.name.startswith("b.") or self.name in CONDITIONAL_BRANCHES
 
     @property
@@ -105,7 +105,7 @@ class Function:
 
 
 def instruction_of(at: int, name: str, words: str, relocation: Relocation | None) -> Instruction:
-    """An instruction by its words."""
+    """The instruction for these words."""
     text = f"{name} {words}".strip()
     try:
         return Instruction(at, name, tuple(map(operand_of, split(words))), text, relocation)
@@ -114,25 +114,25 @@ def instruction_of(at: int, name: str, words: str, relocation: Relocation | None
 
 
 def disassembled(path: str) -> str:
-    """What llvm-objdump tells of the object's sections of code, in the order of the object."""
+    """The output of llvm-objdump for the code sections, in the order of the object."""
     words = ["llvm-objdump", "-d", "--no-show-raw-insn", "--no-leading-headers", path]
     return subprocess.run(words, stdout=subprocess.PIPE, text=True, check=True).stdout
 
 
 def without_names(words: str) -> str:
-    """The operands without what is added for readers: a remark, and the name of a place, which may have commas."""
+    """The operands without remarks and names of places, which are added for readers, and may have commas."""
     return re.sub(r" <.*>$", "", words.split("//")[0].strip())
 
 
 def functions_of(path: str, elf: ElfObject) -> list[Function]:
-    """The functions of the object, which is in this file: all of the instructions of each."""
+    """The functions of the object in this file: all instructions of each."""
     sections = iter([section for section in elf.sections if section.is_code and section.size > 0])
     found: list[tuple[Section, list[Instruction]]] = []
     for line in disassembled(path).splitlines():
         if begins := re.fullmatch(r"Disassembly of section (.*):", line):
             section = next(sections)
             if section.name != begins[1]:
-                raise Refused(f"llvm-objdump tells {begins[1]} where {section.name} stands")
+                raise Refused(f"llvm-objdump prints {begins[1]} instead of {section.name}")
             found.append((section, []))
         elif code := re.fullmatch(r" *([0-9a-f]+): +\t(\S+)(?:\t(.*))?", line):
             section, instructions = found[-1]

@@ -1,8 +1,8 @@
-"""Instructions of whole numbers, and of the flags, as statements of C.
+"""Integer instructions, and those of the flags, as statements of C.
 
-Values are held as 64 bits. What a w register is written is cut to 32, so that sums, differences, products, shifts to
-the left and whatever is done bit by bit may be worked out in 64; what looks at the upper end of a value (flags, shifts
-to the right, quotients, leading zeros) is worked out in the register's own type.
+Values have 64 bits. A value that is written to a w register is cut to 32. So sums, differences, products, left shifts
+and bitwise operations may be computed in 64 bits. What depends on the upper end of a value (flags, right shifts,
+quotients, leading zeros) is computed in the type of the register.
 """
 
 from __future__ import annotations
@@ -20,7 +20,7 @@ BITS = {"and": "&", "orr": "|", "eor": "^", "bic": "& ~", "orn": "| ~", "eon": "
 
 
 def shifted(value: Whole | Immediate, shift: Shift | None) -> str:
-    """An operand with what is done to it, of which as many bits count as the register has."""
+    """An operand after its shift or widening, in the bits of the register."""
     if shift is None:
         return value.read()
     if shift.how in EXTENSIONS:
@@ -28,7 +28,7 @@ def shifted(value: Whole | Immediate, shift: Shift | None) -> str:
     if shift.how == "lsl":
         return f"({value.read()} << {shift.by})"
     if isinstance(value, Immediate):
-        raise Refused("a number that is shifted to the right")
+        raise Refused("a number with a right shift")
     if shift.how == "lsr":
         return f"({value.read()} >> {shift.by})"
     if shift.how == "asr":
@@ -39,7 +39,7 @@ def shifted(value: Whole | Immediate, shift: Shift | None) -> str:
 
 
 def last(i: Instruction, place: int) -> str:
-    """The last operand, and the shift behind it, if there is one."""
+    """The last operand, and the shift after it, if there is one."""
     if len(i.operands) > place + 2:
         raise Refused("it has too many operands")
     operand = i.operands[place]
@@ -49,19 +49,19 @@ def last(i: Instruction, place: int) -> str:
 
 
 def sum_flags(kind: str, of: Whole, first: str, second: str) -> str:
-    """The flags of a sum or a difference."""
+    """Sets the flags of a sum or a difference."""
     return f"FLAGS_OF_{'SUM' if kind in ('adds', 'cmn', 'ccmn') else 'DIFFERENCE'}({of.bits}, {first}, {second});"
 
 
 def write_sum(i: Instruction) -> list[str]:
-    """`add`, `sub`, and these with flags."""
+    """`add` and `sub`, with or without flags."""
     first, second = i.whole(1).read(), last(i, 2)
     flags = [sum_flags(i.name, i.whole(0), first, second)] if i.name.endswith("s") else []
     return [*flags, *i.whole(0).write(f"{first} {SUMS[i.name[:3]]} {second}")]
 
 
 def write_comparison(i: Instruction) -> list[str]:
-    """The flags of a difference or a sum that is not kept."""
+    """The flags of a difference or a sum whose value is not used."""
     return [sum_flags(i.name, i.whole(0), i.whole(0).read(), last(i, 1))]
 
 
@@ -72,7 +72,7 @@ def write_negation(i: Instruction) -> list[str]:
 
 
 def write_bits(i: Instruction) -> list[str]:
-    """What is done bit by bit, with flags or without."""
+    """Bitwise operations, with flags or without."""
     value = f"{i.whole(1).read()} {BITS[i.name if i.name in BITS else i.name[:3]]}({last(i, 2)})"
     flags = [f"FLAGS_OF_BITS({i.whole(0).bits}, {value});"] if i.name in ("ands", "bics") else []
     return [*flags, *i.whole(0).write(value)]
@@ -90,14 +90,14 @@ def write_move(i: Instruction) -> list[str]:
 
 
 def write_move_16(i: Instruction) -> list[str]:
-    """Sixteen bits of a register, of which the others stay."""
+    """Sixteen bits of a register; the others stay."""
     shift = i.shift(2)
     by = shift.by if shift else 0
     return i.whole(0).write(f"({i.whole(0).read()} & ~(0xffffull << {by})) | {i.number(1)}ull << {by}")
 
 
 def write_product(i: Instruction) -> list[str]:
-    """A product, alone, turned, or added to a third register or taken from it."""
+    """A product, alone, negated, or added to a third register or subtracted from it."""
     product = f"{i.whole(1).read()} * {i.whole(2).read()}"
     if i.name in ("mul", "mneg"):
         return i.whole(0).write(product if i.name == "mul" else f"-({product})")
@@ -105,7 +105,7 @@ def write_product(i: Instruction) -> list[str]:
 
 
 def write_wide_product(i: Instruction) -> list[str]:
-    """The product of two w registers in 64 bits, alone, or added to a third register or taken from it."""
+    """The product of two w registers in 64 bits, alone, or added to a third register or subtracted from it."""
     cast = "(u64)(u32)" if i.name.startswith("u") else "(u64)(i64)(i32)"
     product = f"{cast}({i.whole(1).read()}) * {cast}({i.whole(2).read()})"
     if i.name in ("umull", "smull"):
@@ -121,13 +121,13 @@ def write_high_product(i: Instruction) -> list[str]:
 
 
 def write_quotient(i: Instruction) -> list[str]:
-    """A quotient, towards 0; by 0 it is 0, and the least number by -1 is itself (C3.4.8)."""
+    """A quotient, rounded towards 0; x / 0 is 0, and the least number / -1 is itself (C3.4.8)."""
     to, call = i.whole(0), "quotient" if i.name == "udiv" else "quotient_signed"
     return to.write(f"{call}_{to.bits}({i.whole(1).read()}, {i.whole(2).read()})")
 
 
 def write_shift(i: Instruction) -> list[str]:
-    """A shift by a number or a register, of which as many bits count as tell a place in the first."""
+    """A shift by a number or a register, modulo the width of the first operand."""
     to, how = i.whole(0), i.name[:3]
     second = i.operands[2]
     if not isinstance(second, (Whole, Immediate)):
@@ -140,7 +140,7 @@ def write_shift(i: Instruction) -> list[str]:
 
 
 def write_field(i: Instruction) -> list[str]:
-    """Bits of a register that are cut out, moved, or put into another."""
+    """Bits of a register that are extracted, moved, or inserted into another."""
     to, value, low, size = i.whole(0), i.whole(1).read(), i.number(2), i.number(3)
     mask = f"{(1 << size) - 1}ull"
     fields = {
@@ -155,7 +155,7 @@ def write_field(i: Instruction) -> list[str]:
 
 
 def write_extraction(i: Instruction) -> list[str]:
-    """As many bits as a register has, from a place in two that stand beside each other."""
+    """The bits of one register's width, from a place in the concatenation of two."""
     low, to = i.number(3), i.whole(0)
     if low == 0:
         return to.write(i.whole(2).read())
@@ -168,7 +168,7 @@ def write_widening(i: Instruction) -> list[str]:
 
 
 def write_count(i: Instruction) -> list[str]:
-    """Leading zeros, or the bits or the bytes the other way round."""
+    """Leading zeros, or the bits or the bytes in reverse order."""
     to, value = i.whole(0), i.whole(1).read()
     if i.name == "clz":
         return to.write(f"leading_zeros_{to.bits}({value})")
@@ -185,26 +185,26 @@ def write_carried_sum(i: Instruction) -> list[str]:
 
 
 def write_choice(i: Instruction) -> list[str]:
-    """One of two registers, by the flags; the second as it is, one more, its complement or turned."""
+    """One of two registers, depending on the flags; the second as it is, plus one, complemented or negated."""
     changes = {"csel": "{}", "csinc": "{} + 1", "csinv": "~{}", "csneg": "-{}"}
     other = changes[i.name].format(i.whole(2).read())
     return i.whole(0).write(f"{i.condition(3)} ? {i.whole(1).read()} : {other}")
 
 
 def write_flag(i: Instruction) -> list[str]:
-    """1, or all ones, where the flags tell a condition, and else 0."""
+    """1, or all ones, if the flags satisfy a condition, and otherwise 0."""
     return i.whole(0).write(f"{'-' if i.name == 'csetm' else ''}(u64)({i.condition(1)})")
 
 
 def write_change(i: Instruction) -> list[str]:
-    """A register, one more, its complement or turned where the flags tell a condition."""
+    """A register; plus one, complemented or negated if the flags satisfy a condition."""
     value = i.whole(1).read()
     changed = {"cinc": f"{value} + 1", "cinv": f"~{value}", "cneg": f"-{value}"}[i.name]
     return i.whole(0).write(f"{i.condition(2)} ? {changed} : {value}")
 
 
 def write_further_comparison(i: Instruction) -> list[str]:
-    """The flags of a comparison where they tell a condition, and else those of a number."""
+    """The flags of a comparison if the flags satisfy a condition, and otherwise those of a number."""
     second = i.operands[1]
     if not isinstance(second, (Whole, Immediate)):
         raise Refused("its second operand is not known here")

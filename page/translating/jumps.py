@@ -1,14 +1,15 @@
-"""Jumps by tables.
+"""Jump tables.
 
-A jump goes to the sum of a place in the function (`adr`) and four times an entry of a table, which has a byte or two:
+A jump goes to the sum of a place in the function (`adr`) and four times an entry of a table, which has one or two
+bytes:
 
     adr   x11, #16
     ldrb  w12, [x10, x9]            or ldrh w12, [x10, x9, lsl #1]
     add   x11, x11, x12, lsl #2
     br    x11
 
-Here the sum is worked out as the machine does, and the jump is a `switch` over what it may be. Which table it is, and
-where that ends, is only looked for here, for the places: where one were missing, the program would end at the jump.
+In C the sum is computed as in the machine, and the jump is a `switch` over its possible values. The table and its end
+are only searched for to find these values: if one were missing, the program would end at the jump.
 """
 
 from __future__ import annotations
@@ -21,13 +22,13 @@ from translating.operands import Address, Immediate, Shift, Target, Whole
 from translating.refusal import Refused
 
 WRITE_NOTHING = ("st", "cmp", "cmn", "ccm", "tst", "cb", "tb", "br", "blr", "prf")
-# how many bytes an entry has, by what loads it
+# the number of bytes of an entry, by the instruction that loads it
 ENTRY_BYTES = {"ldrb": 1, "ldrh": 2}
 
 
 @dataclass(frozen=True)
 class Jump:
-    """A jump by a table: the place that entries are added to, and where `adr` gives it; and all to which it may go."""
+    """A jump table: the place to which entries are added, the `adr` that has it, and all targets."""
 
     base_at: int
     base: int
@@ -35,7 +36,7 @@ class Jump:
 
 
 def last_write(function: Function, before: int, register: Whole) -> int:
-    """Which instruction writes a register last, in the order of the text, before another one."""
+    """The last instruction before another one, in the order of the text, that writes a register."""
     for place in range(before - 1, -1, -1):
         i = function.instructions[place]
         if i.name.startswith(WRITE_NOTHING):
@@ -47,7 +48,7 @@ def last_write(function: Function, before: int, register: Whole) -> int:
 
 
 def base_of(i: Instruction) -> int:
-    """The place that `adr` gives."""
+    """The place that `adr` computes."""
     found = i.operands[1]
     if i.name != "adr" or not isinstance(found, (Immediate, Target)):
         raise Refused("a jump whose table is not found")
@@ -55,7 +56,7 @@ def base_of(i: Instruction) -> int:
 
 
 def table_ends(elf: ElfObject, section: Section) -> list[int]:
-    """The places of a section at which a table may end: where another begins, or the section ends."""
+    """The places of a section at which a table may end: the beginning of another one, or the end of the section."""
     begins = {
         relocation.place
         for places in elf.relocations.values()
@@ -76,7 +77,7 @@ def entries(elf: ElfObject, table: Relocation, width: int) -> list[int]:
 
 
 def jump_at(elf: ElfObject, function: Function, place: int) -> Jump:
-    """The jump that an instruction is."""
+    """The jump table of an instruction."""
     at = function.instructions
     step = last_write(function, place, at[place].whole(0))
     if at[step].name != "add" or not at[step].has(Whole, Whole, Whole, Shift) or at[step].shift(3) != Shift("lsl", 2):
@@ -92,12 +93,12 @@ def jump_at(elf: ElfObject, function: Function, place: int) -> Jump:
     begin = base_of(at[base])
     found = {begin + 4 * it for it in entries(elf, table, ENTRY_BYTES[at[entry].name])}
     if not all(it % 4 == 0 and 0 <= it < function.section.size for it in found):
-        raise Refused("a jump by a table that leads out of its function")
+        raise Refused("a jump table that leads out of its function")
     return Jump(at[base].at, begin, tuple(sorted(found)))
 
 
 def jumps_of(elf: ElfObject, function: Function) -> dict[int, Jump]:
-    """All jumps by tables of a function, by their places."""
+    """All jump tables of a function, by place."""
     found = {}
     for place, i in enumerate(function.instructions):
         if i.name == "br":

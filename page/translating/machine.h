@@ -1,8 +1,8 @@
 /*
- * The machine that translated code runs on: registers are variables of a function, memory is the program's own.
+ * The machine for translated code: registers are variables of a function, memory is that of the program.
  *
- * An address of the machine has 64 bits. Where an address of C has 32, those above them are 0 in each address that code
- * uses, and addresses are worked out modulo 2^64, so that cutting a sum to 32 bits gives the same place.
+ * An address of the machine has 64 bits. If an address of C has 32, the bits above them are 0 in each address that code
+ * uses, and addresses are computed modulo 2^64, so that cutting a sum to 32 bits gives the same place.
  */
 #include <stdint.h>
 
@@ -15,7 +15,7 @@ typedef int16_t i16;
 typedef int32_t i32;
 typedef int64_t i64;
 
-/* A vector's register, by its lanes: the first lane is the lowest. */
+/* A vector register with its lanes: the first lane is the lowest. */
 typedef union {
   u8 u8[16];
   u16 u16[8];
@@ -25,16 +25,16 @@ typedef union {
 } vec;
 #define NOTHING ((vec){ .u64 = { 0, 0 } })
 
-/* Memory, at any alignment: the machine asks for none. */
-#define PLACE(at) ((u8 *)(uintptr_t)(at))
-#define ADDRESS(place) ((u64)(uintptr_t)(place))
-#define LOAD(kind, at) ({ kind load_; __builtin_memcpy(&load_, PLACE(at), sizeof(kind)); load_; })
-#define STORE(kind, at, value) do { kind store_ = (value); __builtin_memcpy(PLACE(at), &store_, sizeof(kind)); } while (0)
+/* Memory, at any alignment: the machine requires none. */
+#define PLACE(at) ((u8 *)(uintptr_t)(at)) define ADDRESS(place) ((u64)(uintptr_t)(place)) define LOAD(kind, at) ({ kind
+#load_; __builtin_memcpy(&load_, PLACE(at), sizeof(kind)); load_; }) define STORE(kind, at, value) do { kind store_ =
+#(value); __builtin_memcpy(PLACE(at), &store_, sizeof(kind)); } while (0)
 
 /*
  * A function: parameters are passed in x0 to x7, and the place of a result that has none in registers in x8 (Procedure
- * Call Standard, 6.8.2); what is beyond them on the stack. x19 to x29 are the caller's, whose variables no call changes.
- * The others begin as 0, since nothing may ask for them. The result is in x0, and where it is longer in those behind it.
+ * Call Standard, 6.8.2); what is beyond them on the stack. x19 to x29 are the caller's, whose variables no call
+ * changes. The others begin as 0, since nothing may ask for them. The result is in x0, and if it is longer, also in
+ * the registers after it.
  */
 typedef u64 function(u64, u64, u64, u64, u64, u64, u64, u64, u64, u64);
 #define FUNCTION(name) static u64 name(u64 x0, u64 x1, u64 x2, u64 x3, u64 x4, u64 x5, u64 x6, u64 x7, u64 x8, u64 sp)
@@ -57,12 +57,12 @@ static u64 result1, result2, result3, result4, result5, result6, result7;
   return x0; \
 } while (0)
 
-/* The machine's stack. A program that would leave it ends. */
+/* The stack of the machine. A program that would leave it ends. */
 enum { STACK_BYTES = 1 << 20 };
 static _Alignas(16) u8 stack[STACK_BYTES];
 #define STACK_HOLDS do { if (sp - ADDRESS(stack) > STACK_BYTES) __builtin_trap(); } while (0)
 
-/* The flags (AddWithCarry of the manual): a difference carries where it borrows nothing. */
+/* The flags (AddWithCarry of the manual): a difference sets the carry if there is no borrow. */
 #define FLAGS_OF(bits, over, carries) \
   (flag_n = (i##bits)r_ < 0, flag_z = r_ == 0, flag_v = (i##bits)(over) < 0, flag_c = (carries))
 #define FLAGS_OF_SUM(bits, first, second) do { \
@@ -73,18 +73,18 @@ static _Alignas(16) u8 stack[STACK_BYTES];
   u##bits a_ = (u##bits)(first), b_ = (u##bits)(second), r_ = (u##bits)(a_ - b_); \
   FLAGS_OF(bits, (a_ ^ b_) & (a_ ^ r_), a_ >= b_); \
 } while (0)
-#define FLAGS_OF_BITS(bits, value) do { u##bits r_ = (u##bits)(value); FLAGS_OF(bits, 0, 0); } while (0)
-#define FLAGS_ARE(nzcv) (flag_n = (nzcv) >> 3 & 1, flag_z = (nzcv) >> 2 & 1, flag_c = (nzcv) >> 1 & 1, flag_v = (nzcv) & 1)
+#define FLAGS_OF_BITS(bits, value) do { u##bits r_ = (u##bits)(value); FLAGS_OF(bits, 0, 0); } while (0) define
+#FLAGS_ARE(nzcv) (flag_n = (nzcv) >> 3 & 1, flag_z = (nzcv) >> 2 & 1, flag_c = (nzcv) >> 1 & 1, flag_v = (nzcv) & 1)
 #define CARRIED_SUM(bits, first, second) \
   u##bits a_ = (u##bits)(first), b_ = (u##bits)(second), r_ = (u##bits)(a_ + b_ + (u##bits)flag_c)
 #define FLAGS_OF_CARRIED_SUM(bits) FLAGS_OF(bits, (a_ ^ r_) & (b_ ^ r_), flag_c ? r_ <= a_ : r_ < a_)
-/* Of numbers with fractions (FPCompare): all but n and z are set where one is no number. */
+/* The flags of floating-point numbers (FPCompare): c and v are set and n and z clear if one is NaN. */
 #define FLAGS_OF_FRACTIONS(first, second) do { \
   double a_ = (first), b_ = (second); \
   flag_n = a_ < b_; flag_z = a_ == b_; flag_c = !(a_ < b_); flag_v = a_ != a_ || b_ != b_; \
 } while (0)
 
-/* Whole numbers, where C leaves open what the machine does. */
+/* Integers, for operations that C leaves undefined and the machine defines. */
 static inline u64 quotient_64(u64 a, u64 b) { return b == 0 ? 0 : a / b; }
 static inline u64 quotient_32(u64 a, u64 b) { return (u32)b == 0 ? 0 : (u32)a / (u32)b; }
 static inline u64 quotient_signed_64(u64 a, u64 b) { return b == 0 ? 0 : b == ~(u64)0 ? -a : (u64)((i64)a / (i64)b); }
@@ -110,7 +110,7 @@ static inline u64 shifted_lane(u64 lane, int by, int bits)
   return by <= -bits || by >= bits ? 0 : by < 0 ? lane >> -by : lane << by;
 }
 
-/* What the proved code asks of its host for memory (heap.c). No block is larger than memory. */
+/* The allocator that the proved code needs (heap.c). No block is larger than memory. */
 struct tried {
   uintptr_t given;
   char *at;
@@ -129,7 +129,7 @@ void rattle_dealloc(char *at);
   TRIED(x2, rattle_realloc((char *)PLACE(x0), (uintptr_t)x1, (uintptr_t)x2, (uintptr_t)x3))
 #define CALL_rattle_dealloc() rattle_dealloc((char *)PLACE(x0))
 
-/* What its compiler asks of the library of C: the copies and fills are instructions of WebAssembly. */
+/* What its compiler needs of the C library: copies and fills are instructions of WebAssembly. */
 #define CALL_memcpy() __builtin_memcpy(PLACE(x0), PLACE(x1), x2)
 #define CALL_memmove() __builtin_memmove(PLACE(x0), PLACE(x1), x2)
 #define CALL_memset() __builtin_memset(PLACE(x0), (int)x1, x2)
@@ -145,7 +145,7 @@ static inline u64 compared(const u8 *a, const u8 *b, u64 count)
   return 0;
 }
 
-/* Where addresses stand in the data, and whose they are: they are put there before the first call. */
+/* The places of addresses in the data, and their values: they are written there before the first call. */
 struct address {
   u32 where;
   uintptr_t to;
@@ -160,7 +160,7 @@ struct address {
     has_begun = 1; \
   }
 
-/* A call that the program's host makes. */
+/* A call that the host of the program makes. */
 #ifdef __wasm__
 #define EXPORT(name) __attribute__((export_name(#name))) u32 name
 #else

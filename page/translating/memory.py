@@ -9,7 +9,7 @@ from translating.integers import Writer, shifted
 from translating.operands import TYPE_BYTES, Address, Immediate, Listed, Part, Whole
 from translating.refusal import Refused
 
-# what a load or a store of less than a register moves: a load of a signed type widens it with its sign
+# the type that a load or a store of less than a register moves; a load of a signed type extends the sign
 NARROW = {
     "ldrb": "u8",
     "ldrh": "u16",
@@ -25,12 +25,12 @@ PAIRS = ("ldp", "ldnp", "ldpsw", "stp", "stnp")
 
 
 def scaled(name: str) -> str:
-    """The name of the load or the store that does the same, but for how its place is written: `ldur` is `ldr`."""
+    """The name of the load or store with the same effect, but another form of address: `ldur` is `ldr`."""
     return re.sub(r"^(ld|st)ur", r"\1r", name)
 
 
 def address_at(i: Instruction, place: int) -> tuple[Address, int]:
-    """The address at a place, the last or last but one, and what its base takes more behind the access."""
+    """The address at a place, the last or last but one, and what is added to its base after the access."""
     found = i.operands[place] if place < len(i.operands) else None
     if not isinstance(found, Address):
         raise Refused("its address is not known here")
@@ -38,7 +38,7 @@ def address_at(i: Instruction, place: int) -> tuple[Address, int]:
     if not behind:
         return found, 0
     if len(behind) > 1 or not isinstance(behind[0], Immediate) or found.offset or found.index:
-        raise Refused("what stands behind its address is not known here")
+        raise Refused("what follows its address is not known here")
     return found, behind[0].value
 
 
@@ -50,7 +50,7 @@ def place_of(address: Address) -> str:
 
 
 def access(i: Instruction, place: int, moves: list[str]) -> list[str]:
-    """What is moved at the place `at_`, with what becomes of the base before or behind it."""
+    """The access at the place `at_`, with the change of the base before or after it."""
     address, more = address_at(i, place)
     base = address.base
     behind = base.write(f"{base.read()} + {Immediate(more).read()}") if more else []
@@ -90,9 +90,9 @@ def write_one(i: Instruction) -> list[str]:
 
 
 def write_two(i: Instruction) -> list[str]:
-    """A load or a store of two registers that stand behind each other in memory.
+    """A load or a store of two registers that follow one another in memory.
 
-    Where a load takes its own base, that is the one that was there before: the place is worked out first.
+    If a load overwrites its own base, the old base is used: the place is computed first.
     """
     registers = [register_at(i, 0), register_at(i, 1)]
     moves = []
@@ -118,7 +118,7 @@ def write_lane(i: Instruction) -> list[str]:
 
 
 def nothing(_: Instruction) -> list[str]:
-    """What only makes a later access quicker."""
+    """A prefetch, which only makes a later access faster."""
     return []
 
 

@@ -1,4 +1,4 @@
-"""The whole of an object as one file of C, over machine.h."""
+"""A complete object as one file of C, which uses machine.h."""
 
 from __future__ import annotations
 
@@ -10,16 +10,16 @@ from translating.image import Image
 from translating.instructions import Function, functions_of
 from translating.refusal import Refused
 
-# the types of a call's parameters in C, by the letters of page/exports: what is widened there has zeros above
+# the types in C of the parameters of a call, by the letters of page/exports; wider registers have zeros above
 PARAMETERS = {"w": "u32", "x": "uintptr_t"}
-# as many parameters stand in registers; each other one takes eight bytes of the stack (Procedure Call Standard, 6.8.2)
+# this many parameters are in registers; each other one has eight bytes of the stack (Procedure Call Standard, 6.8.2)
 IN_REGISTERS = 8
-# what lies above a call's stack, for its parameters
+# the space above the stack of a call, for its parameters
 ABOVE_STACK = 256
 
 
 def exports_of(path: str) -> dict[str, list[str]]:
-    """The calls that the module has, each with its parameters, as the file says them."""
+    """The calls of the module, each with its parameters, from the file."""
     with open(path, encoding="ascii") as file:
         rows = [line.split() for line in file if line.strip() and not line.startswith("#")]
     for name, *parameters in rows:
@@ -45,7 +45,7 @@ def definition(function: Function, image: Image) -> Iterator[str]:
 
 
 def call(name: str, parameters: list[str], function: Function) -> Iterator[str]:
-    """A call of the host: it begins with the stack empty, and answers a byte."""
+    """A call of the host: it begins with an empty stack, and returns a byte."""
     given = [f"{PARAMETERS[letter]} given{place}" for place, letter in enumerate(parameters)]
     words = [f"given{place}" for place in range(len(parameters))]
     registers = (words[:IN_REGISTERS] + ["0"] * IN_REGISTERS)[:IN_REGISTERS]
@@ -60,7 +60,7 @@ def call(name: str, parameters: list[str], function: Function) -> Iterator[str]:
 
 
 def calls(elf: ElfObject, functions: list[Function], exports: dict[str, list[str]]) -> Iterator[str]:
-    """All calls of the host: the object's global functions, which are those of the list."""
+    """All calls of the host: the global functions of the object, which must be those of the list."""
     by_section = {function.section.number: function for function in functions}
     found: dict[str, Symbol] = {
         symbol.name: symbol for symbol in elf.symbols if symbol.is_global and not symbol.is_outside

@@ -23,7 +23,7 @@ LANE_TYPES = {"b": "u8", "h": "u16", "s": "u32", "d": "u64"}
 PART_TYPES = {**LANE_TYPES, "q": "vec"}
 TYPE_BYTES = {"u8": 1, "u16": 2, "u32": 4, "u64": 8, "vec": 16}
 
-# Each condition over the flags (the manual's table of conditions, C1.2.4).
+# Each condition in terms of the flags (the manual's table of conditions, C1.2.4).
 CONDITIONS = {
     "eq": "flag_z",
     "ne": "!flag_z",
@@ -42,7 +42,7 @@ CONDITIONS = {
 }
 SYNONYMS = {"cs": "hs", "cc": "lo"}
 
-# What an extended register is cut to before it is widened.
+# The type to which an extended register is cut before it is widened.
 EXTENSIONS = {
     "uxtb": "u8",
     "uxth": "u16",
@@ -57,7 +57,7 @@ EXTENSIONS = {
 
 @dataclass(frozen=True)
 class Whole:
-    """A register of whole numbers: a w register is the low half of an x register; the zero register has no name."""
+    """An integer register: a w register is the low half of an x register; the zero register has no name."""
 
     name: str
     bits: int
@@ -73,13 +73,13 @@ class Whole:
         return f"i{self.bits}"
 
     def read(self) -> str:
-        """What it holds, as 64 bits: those above a w register's are 0."""
+        """Its value as 64 bits: those above a w register are 0."""
         if not self.name:
             return "(u64)0"
         return self.name if self.bits == 64 else f"(u64)(u32){self.name}"
 
     def write(self, value: str) -> list[str]:
-        """Puts a value there, of which a w register takes 32 bits and clears those above them (C6.1.2)."""
+        """Writes a value; a w register takes 32 bits of it, and clears those above them (C6.1.2)."""
         if not self.name:
             return []
         cut = value if self.bits == 64 else f"(u32)({value})"
@@ -88,22 +88,22 @@ class Whole:
 
 @dataclass(frozen=True)
 class Part:
-    """The low bits of a vector's register: b, h, s and d have 8 to 64 of them, q has all."""
+    """The low bits of a vector register: b, h, s and d have 8 to 64 of them, q has all."""
 
     number: int
     letter: str
 
     @property
     def kind(self) -> str:
-        """The type in C of what it holds."""
+        """The type of its value in C."""
         return PART_TYPES[self.letter]
 
     def read(self) -> str:
-        """What it holds."""
+        """Its value."""
         return f"v{self.number}" if self.kind == "vec" else f"v{self.number}.{self.kind}[0]"
 
     def write(self, value: str) -> list[str]:
-        """Puts a value there, which clears the bits above it (C1.2.5)."""
+        """Writes a value, which clears the bits above it (C1.2.5)."""
         if self.kind == "vec":
             return [f"v{self.number} = {value};"]
         return [f"{{ {self.kind} it_ = ({self.kind})({value}); v{self.number} = NOTHING; {self.read()} = it_; }}"]
@@ -111,7 +111,7 @@ class Part:
 
 @dataclass(frozen=True)
 class Lanes:
-    """A vector's register by lanes: all of an arrangement, or one."""
+    """The lanes of a vector register: all of an arrangement, or one."""
 
     number: int
     kind: str
@@ -125,7 +125,7 @@ class Lanes:
 
     @property
     def bits(self) -> int:
-        """How wide a lane is."""
+        """The width of a lane in bits."""
         return 8 * TYPE_BYTES[self.kind]
 
     def one(self) -> str:
@@ -147,25 +147,25 @@ class Lanes:
 
 @dataclass(frozen=True)
 class Immediate:
-    """A whole number."""
+    """An integer."""
 
     value: int
 
     def read(self) -> str:
-        """It, as 64 bits."""
+        """Its value as 64 bits."""
         return f"{self.value & 0xFFFFFFFFFFFFFFFF}ull"
 
 
 @dataclass(frozen=True)
 class Fraction:
-    """A number with a fraction."""
+    """A floating-point number."""
 
     text: str
 
 
 @dataclass(frozen=True)
 class Shift:
-    """What is done to the operand before it: a shift, or a widening and then a shift to the left."""
+    """What is done to the operand before it: a shift, or a widening and then a left shift."""
 
     how: str
     by: int
@@ -173,30 +173,30 @@ class Shift:
 
 @dataclass(frozen=True)
 class Address:
-    """Where a load or a store goes: a register, with a number or another register added."""
+    """The address of a load or a store: a register plus a number or another register."""
 
     base: Whole
     offset: int
     index: Whole | None
     shift: Shift | None
-    is_kept: bool  # whether the base takes the sum, as behind `!`
+    is_kept: bool  # whether the sum is written to the base, as after `!`
 
 
 @dataclass(frozen=True)
 class Listed:
-    """The vectors' registers that a load or a store of vectors names."""
+    """The vector registers of a load or a store of vectors."""
 
     lanes: tuple[Lanes, ...]
 
 
 @dataclass(frozen=True)
 class Condition:
-    """What the flags are to tell."""
+    """A condition of the flags."""
 
     name: str
 
     def read(self) -> str:
-        """Whether they do."""
+        """The condition as an expression of C."""
         return CONDITIONS[self.name]
 
 
@@ -209,7 +209,7 @@ class Target:
 
 @dataclass(frozen=True)
 class Word:
-    """Any other word."""
+    """Any other operand."""
 
     text: str
 
@@ -218,12 +218,12 @@ Operand = Union[Whole, Part, Lanes, Immediate, Fraction, Shift, Address, Listed,
 
 
 def split(text: str) -> list[str]:
-    """The operands of a line: commas within brackets part none."""
+    """The operands of a line: commas within brackets do not separate any."""
     return [part.strip() for part in re.findall(r"(?:\[[^\]]*\]!?|\{[^}]*\}|[^,\[{])+", text)]
 
 
 def whole_of(text: str) -> Whole | None:
-    """The register of whole numbers of this name."""
+    """The integer register of this name."""
     if text == "sp":
         return Whole("sp", 64)
     if text in ("xzr", "wzr"):
@@ -243,7 +243,7 @@ def lanes_of(text: str) -> Lanes | None:
 
 
 def listed_of(text: str) -> Listed | None:
-    """The vectors' registers in braces: all their lanes, or the one whose number stands behind them."""
+    """The vector registers in braces: all their lanes, or the lane whose number follows."""
     found = re.fullmatch(r"\{ (.*) \}(\[\d+\])?", text)
     if not found:
         return None
@@ -288,7 +288,7 @@ def condition_of(text: str) -> Condition | None:
 
 
 def operand_of(text: str) -> Operand:
-    """What an operand is."""
+    """The operand of this text."""
     found = whole_of(text) or lanes_of(text) or listed_of(text) or shift_of(text) or address_of(text)
     if found is not None:
         return found

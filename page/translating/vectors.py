@@ -1,8 +1,8 @@
-"""Instructions of vectors, and of numbers with fractions, as statements of C.
+"""Vector and floating-point instructions as statements of C.
 
-A vector is worked out lane by lane into a new one, which then takes the register's place, so that an operand may be the
-result's register too; lanes beyond those of the arrangement become 0, as the upper half of a register does of which the
-lower is written (C1.2.5). Fractions have 64 bits, the rounding of C, and no exceptions.
+A vector is computed lane by lane into a new one, which then replaces the register, so that an operand may also be the
+register of the result. Lanes beyond those of the arrangement become 0, like the upper half of a register whose lower
+half is written (C1.2.5). Floating-point numbers have 64 bits, the rounding of C, and no exceptions.
 """
 
 from __future__ import annotations
@@ -12,7 +12,7 @@ from translating.integers import Writer
 from translating.operands import Fraction, Immediate, Lanes, Part, Shift, Whole
 from translating.refusal import Refused
 
-# what is made of two lanes, read without a sign or, where the names have brackets, with it
+# the result for two lanes, which are unsigned, or signed if the name has the prefix signed_
 LANE_WISE = {
     "and": "{a} & {b}",
     "orr": "{a} | {b}",
@@ -32,7 +32,7 @@ LANE_WISE = {
     "cmge": "-(u64)({signed_a} >= {signed_b})",
 }
 WITH_ZERO = {"cmeq": "==", "cmlt": "<", "cmle": "<=", "cmgt": ">", "cmge": ">="}
-# which lane a result's pair of lanes takes of its operands; n stands for half of the count
+# the lanes of the operands that become a pair of lanes of the result; n is half of the count
 PAIRED = {
     "zip1": ("2 * i", "i", "2 * i + 1", "i"),
     "zip2": ("2 * i", "i + {n}", "2 * i + 1", "i + {n}"),
@@ -55,14 +55,14 @@ def lane_by_lane(to: Lanes, value: str, count: int | None = None) -> list[str]:
 
 
 def made(to: Lanes, each: str, count: int) -> list[str]:
-    """A result `it_`, by what is done for each `i`."""
+    """A result `it_`, from a statement for each `i`."""
     if to.is_one:
         raise Refused("its first operand is one lane")
     return [f"{{ vec it_ = NOTHING; for (int i = 0; i < {count}; i++) {{ {each} }} v{to.number} = it_; }}"]
 
 
 def all_lanes(i: Instruction, place: int, like: Lanes | None = None) -> Lanes:
-    """The vector at a place, of all its lanes, which are as many and as wide as another's."""
+    """The vector at a place, with the same number and width of lanes as another."""
     found = i.lanes(place)
     if found.is_one or (like is not None and (found.kind, found.count) != (like.kind, like.count)):
         raise Refused(f"the lanes of its operand {place + 1} are not known here")
@@ -79,7 +79,7 @@ def left_shift(shift: Shift | None, value: int) -> int:
 
 
 def write_two(i: Instruction) -> list[str]:
-    """What is made of two vectors lane by lane, or of one and zeros."""
+    """An operation on two vectors lane by lane, or on one and zeros."""
     to = i.lanes(0)
     if i.has(Lanes, Lanes, Immediate):
         if i.name not in WITH_ZERO or i.number(2) != 0:
@@ -93,7 +93,7 @@ def write_two(i: Instruction) -> list[str]:
 
 
 def write_with_number(i: Instruction) -> list[str]:
-    """Bits that each lane loses or gets, by a number."""
+    """Bits that a number clears or sets in each lane."""
     to = i.lanes(0)
     value = left_shift(i.shift(2), i.number(1))
     if i.name not in ("bic", "orr"):
@@ -112,7 +112,7 @@ def write_number(i: Instruction) -> list[str]:
 
 
 def write_selected(i: Instruction) -> list[str]:
-    """Bits of one vector or another, as those of a third tell; the name says which of the three the result replaces."""
+    """Bits of one vector or another, selected by those of a third; the name says which of the three is overwritten."""
     to, a, b = i.lanes(0), all_lanes(i, 1, i.lanes(0)), all_lanes(i, 2, i.lanes(0))
     choices = {
         "bsl": f"({to.read()} & {a.read()}) | (~{to.read()} & {b.read()})",
@@ -123,7 +123,7 @@ def write_selected(i: Instruction) -> list[str]:
 
 
 def write_one(i: Instruction) -> list[str]:
-    """What is made of one vector lane by lane."""
+    """An operation on one vector lane by lane."""
     to = i.lanes(0)
     value = all_lanes(i, 1, to).read()
     changes = {"mvn": "~{}", "not": "~{}", "neg": "-{}", "cnt": "(u64)__builtin_popcountll({})"}
@@ -135,20 +135,20 @@ def write_one(i: Instruction) -> list[str]:
 def write_shift(i: Instruction) -> list[str]:
     """Lanes that are shifted by a number."""
     to, from_, by = i.lanes(0), all_lanes(i, 1, i.lanes(0)), i.number(2)
-    if by >= to.bits:  # the whole lane goes: no shift of C says that
+    if by >= to.bits:  # all bits of the lane are shifted out, for which C has no shift
         raise Refused("its number is not known here")
     value = from_.read_signed() if i.name == "sshr" else from_.read()
     return lane_by_lane(to, f"{value} {'<<' if i.name == 'shl' else '>>'} {by}")
 
 
 def write_shift_by_lanes(i: Instruction) -> list[str]:
-    """Lanes that are shifted by the signed low byte of another's: to the right where it is below 0."""
+    """Lanes that are shifted by the signed low byte of another vector's: to the right if it is below 0."""
     to, from_, by = i.lanes(0), all_lanes(i, 1, i.lanes(0)), all_lanes(i, 2, i.lanes(0))
     return lane_by_lane(to, f"shifted_lane({from_.read()}, (i8){by.each()}, {to.bits})")
 
 
 def write_widened(i: Instruction) -> list[str]:
-    """The low or the high lanes in twice as many bits, shifted to the left: `ushll2` and such take the high ones."""
+    """The low or the high lanes with twice the bits, shifted to the left: `ushll2` and the like take the high ones."""
     to, from_ = i.lanes(0), i.lanes(1)
     is_high = i.name.endswith("2")
     if from_.is_one or to.bits != 2 * from_.bits or from_.count != to.count * (2 if is_high else 1):
@@ -176,7 +176,7 @@ def write_paired(i: Instruction) -> list[str]:
 
 
 def write_pair_sums(i: Instruction) -> list[str]:
-    """The sums of lanes that stand beside each other."""
+    """The sums of adjacent lanes."""
     if i.has(Part, Lanes):
         from_ = i.lanes(1)
         if from_.is_one or (i.part(0).letter, from_.kind, from_.count) != ("d", "u64", 2):
@@ -204,7 +204,7 @@ def write_across(i: Instruction) -> list[str]:
 
 
 def write_cut_out(i: Instruction) -> list[str]:
-    """As many bytes as a vector has, from a place in two that stand behind each other."""
+    """The bytes of one vector's width, from a place in the concatenation of two."""
     to, a, b, from_ = i.lanes(0), all_lanes(i, 1, i.lanes(0)), all_lanes(i, 2, i.lanes(0)), i.number(3)
     if to.kind != "u8":
         raise Refused("its lanes are not known here")
@@ -224,7 +224,7 @@ def write_repeated(i: Instruction) -> list[str]:
 
 
 def write_move(i: Instruction) -> list[str]:
-    """A lane from a register of whole numbers or to one, from lane to lane, or a whole vector."""
+    """A lane from an integer register or to one, from lane to lane, or a whole vector."""
     to, from_ = i.operands[0], i.operands[1]
     if isinstance(to, Whole) and isinstance(from_, Lanes) and from_.is_one:
         return to.write(f"(u64){from_.one()}")
@@ -240,7 +240,7 @@ def write_move(i: Instruction) -> list[str]:
 
 
 def write_bit_move(i: Instruction) -> list[str]:
-    """The bits of a register that is written by another kind, or a fraction."""
+    """The bits of a register of another kind, or a floating-point number."""
     to, from_ = i.operands[0], i.operands[1]
     if isinstance(to, Part) and isinstance(from_, (Whole, Part)) and to.letter in "sd":
         return to.write(from_.read())
@@ -252,38 +252,38 @@ def write_bit_move(i: Instruction) -> list[str]:
 
 
 def fraction(i: Instruction, place: int) -> str:
-    """The number with a fraction at a place."""
+    """The floating-point number at a place."""
     found = i.operands[place] if place < len(i.operands) else None
     if isinstance(found, Fraction) and float(found.text) == 0:
         return "0.0"
     if isinstance(found, Part) and found.letter == "d":
         return f"v{found.number}.f64[0]"
-    raise Refused("fractions of 64 bits alone are known here")
+    raise Refused("only floating-point numbers of 64 bits are known here")
 
 
 def write_fraction(to: Part, value: str) -> list[str]:
-    """Puts a number with a fraction into a register."""
+    """Writes a floating-point number to a register."""
     if to.letter != "d":
-        raise Refused("fractions of 64 bits alone are known here")
+        raise Refused("only floating-point numbers of 64 bits are known here")
     return [f"{{ double it_ = {value}; v{to.number} = NOTHING; v{to.number}.f64[0] = it_; }}"]
 
 
 def write_arithmetic(i: Instruction) -> list[str]:
-    """A sum, difference, product or quotient of fractions."""
+    """A sum, difference, product or quotient of floating-point numbers."""
     operator = {"fadd": "+", "fsub": "-", "fmul": "*", "fdiv": "/"}[i.name]
     return write_fraction(i.part(0), f"{fraction(i, 1)} {operator} {fraction(i, 2)}")
 
 
 def write_turned(i: Instruction) -> list[str]:
-    """A fraction with the other sign, or with none: of what is no number too, so by the bits."""
+    """A floating-point number with the other sign, or without a sign; also of NaN, so with the bits."""
     if (i.part(0).letter, i.part(1).letter) != ("d", "d"):
-        raise Refused("fractions of 64 bits alone are known here")
+        raise Refused("only floating-point numbers of 64 bits are known here")
     value = i.part(1).read()
     return i.part(0).write(f"{value} ^ 1ull << 63" if i.name == "fneg" else f"{value} & ~(1ull << 63)")
 
 
 def write_fraction_choice(i: Instruction) -> list[str]:
-    """One of two fractions, by the flags: its bits."""
+    """The bits of one of two floating-point numbers, depending on the flags."""
     parts = [i.part(place) for place in range(3)]
     if len({part.letter for part in parts}) > 1:
         raise Refused("its operands are not known here")
@@ -291,12 +291,12 @@ def write_fraction_choice(i: Instruction) -> list[str]:
 
 
 def write_fraction_comparison(i: Instruction) -> list[str]:
-    """The flags of two fractions."""
+    """The flags of a comparison of two floating-point numbers."""
     return [f"FLAGS_OF_FRACTIONS({fraction(i, 0)}, {fraction(i, 1)});"]
 
 
 def write_fraction_of(i: Instruction) -> list[str]:
-    """A whole number as a fraction."""
+    """An integer as a floating-point number."""
     from_ = i.whole(1)
     kind = from_.unsigned if i.name == "ucvtf" else from_.signed
     return write_fraction(i.part(0), f"(double)({kind}){from_.read()}")

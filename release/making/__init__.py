@@ -1,1 +1,1 @@
-"""How a release is made, of what the gate has proved and built."""
+"""Makes a release from the files that tests/all has proved and built."""

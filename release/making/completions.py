@@ -1,12 +1,12 @@
-"""Completions for bash, zsh and fish, of what the programs tell of themselves."""
+"""Completions for bash, zsh and fish, from the help texts of the programs."""
 
 from __future__ import annotations
 
 from making.programs import Program
 
-# What the options do with which a program is called alone, and their short forms.
+# The effect of options without a command, and their short forms.
 _DOES = {
-    "--details": "print what makes each bound",
+    "--details": "print the parts of each bound",
     "--timeline": "print the worst case of a message",
     "--version": "print version",
 }
@@ -75,7 +75,7 @@ def fish(told: Program) -> str:
 
 
 def _zsh_option(name: str, has_word: bool) -> str:
-    """An option that stands alone, for zsh's `_arguments`."""
+    """An option without a command, for zsh's `_arguments`."""
     names = f"{{{_SHORT[name]},{name}}}" if name in _SHORT else name
     return f"'(- *)'{names}'[{_DOES[name]}]{':word: ' * has_word}'"
 

@@ -1,4 +1,4 @@
-"""The links of a release's documents: each leads to what the release has."""
+"""The links of the documents in a release: each leads to a file of the release."""
 
 from __future__ import annotations
 
@@ -9,10 +9,10 @@ LINK = re.compile(r"\[(?P<words>[^\[\]]*)\]\((?P<path>[^():#\s]+)(?P<part>#[^()\
 
 
 def settled(text: str, name: str, documents: set[str], shared: set[str]) -> str:
-    """The text of the document of this name, its links to files of the repository turned to where the release has them.
+    """The text of the document with this name; its links lead to the places of the files in the release.
 
-    Documents stand to one another as in the repository, and what is shared, below another folder, likewise. Of a link
-    to anything else, as to a file of a crate, the words alone stay.
+    Documents keep their relative places, and so do shared files, below another folder. Links to other files, such as
+    those of a crate, become plain words.
     """
     folder = os.path.dirname(name)
 

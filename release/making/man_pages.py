@@ -1,4 +1,4 @@
-"""Pages of the manual, in mdoc, of what the programs tell of themselves."""
+"""Man pages in mdoc, from the help texts of the programs."""
 
 from __future__ import annotations
 
@@ -11,13 +11,13 @@ _SIGNS = {"\\": r"\e", "-": r"\-", "`": r"\(ga", "'": r"\(aq", "^": r"\(ha", "~"
 
 
 def _plain(line: str) -> str:
-    """The line, as it is to be read."""
+    """The line, escaped."""
     text = "".join(_SIGNS.get(it, it) for it in line)
     return rf"\&{text}" if text.startswith(".") else text
 
 
 def _as_is(paragraphs: Iterator[list[str]]) -> Iterator[str]:
-    """Paragraphs as they stand in the help text, with their columns."""
+    """Paragraphs unchanged from the help text, with their columns."""
     lines = [line for it in paragraphs for line in ["", *it]][1:]
     if lines:
         yield from [".Bd -literal", *map(_plain, lines), ".Ed"]
@@ -46,7 +46,7 @@ def _see_also(told: Program) -> Iterator[str]:
 
 
 def page(told: Program, version: str, seconds: int) -> str:
-    """The page of the manual of a program of this version, of this time."""
+    """The man page of a program, with this version and date."""
     day = time.gmtime(seconds)
     summary = told.help.summary
     lines = [
@@ -68,7 +68,7 @@ def page(told: Program, version: str, seconds: int) -> str:
 
 
 def _word(word: str) -> str:
-    """A word of a call: what is to be put in its place, or an option."""
+    """A word of a synopsis: a placeholder or an option."""
     if word.startswith("["):
         return f".Op Fl {_plain(word.strip('[]')[1:])}"
     if word.startswith("-"):

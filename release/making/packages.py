@@ -1,4 +1,4 @@
-"""The three things that are installed: an archive, a Debian package and a wheel."""
+"""The three forms of a release: an archive, a Debian package and a wheel."""
 
 from __future__ import annotations
 
@@ -18,7 +18,7 @@ import wheel_backend
 
 NAME = f"riddlesage-{VERSION}-linux-x86_64"
 _MODULE = "lib/python3/dist-packages"
-# Python writes its own files beside those of the package, which dpkg knows nothing of.
+# Python writes files into the folders of the package that dpkg does not know.
 _PRERM = f"""\
 #!/bin/sh
 set -e
@@ -35,13 +35,14 @@ Installed-Size: {size}
 Depends: libc6 (>= {libc})
 Recommends: python3 (>= 3.9)
 Suggests: python3-pytest, pkg-config, iverilog, verilator, ghdl, yosys, cadical
-Description: proved reference for classical CAN controllers
- canbit turns frames into levels, traces into frames and faults, and scenarios
- into what was on the bus; canhold judges controllers by a conformance kit;
- canplan tells how late the frames of a network can be; cangates writes the
- reference as a circuit, in Verilog and AIGER, and hold asks a solver whether a
- design is equal to it in every run. With a golden model for C, C++, Rust,
- Python, Verilog, SystemVerilog and VHDL.
+Description: formally verified reference model of classical CAN
+ canbit encodes frames, decodes traces, and simulates a bus with injected bit
+ errors. canhold judges controllers with a conformance test kit. canplan
+ computes worst-case response times. cangates writes the reference controller
+ as a circuit, in Verilog and AIGER. hold checks a design in Verilog or VHDL
+ for equivalence with that circuit, with a SAT solver. Golden models for test
+ benches in C, C++, Rust, Python, Verilog, SystemVerilog and VHDL are included.
+ Bit timing, synchronisation and CAN FD are not modelled.
 """
 
 
@@ -50,19 +51,19 @@ def _sum(path: pathlib.Path, algorithm: str) -> str:
 
 
 def sums(root: pathlib.Path, algorithm: str) -> str:
-    """A line with the sum of each file below a folder, as sha256sum writes and reads them."""
+    """A line with the checksum of each file below a folder, in the format of sha256sum."""
     files = sorted(it for it in root.rglob("*") if it.is_file() and not it.is_symlink())
     return "".join(f"{_sum(it, algorithm)}  {it.relative_to(root)}\n" for it in files)
 
 
 def libc_needed() -> str:
-    """The oldest C library that has all that the shared object names."""
+    """The oldest version of the C library with all symbols that the shared library needs."""
     names = told("readelf", "--version-info", "--wide", TOP / wheel_backend.LIBRARY)
     return max(re.findall(r"GLIBC_([\d.]+)", names), key=lambda it: [int(part) for part in it.split(".")])
 
 
 def wheel(into: pathlib.Path) -> pathlib.Path:
-    """Makes the wheel. Its tag names the C library that it needs; that of 2014 is for a pip that knows no such tag."""
+    """Makes the wheel. Its tag names the C library that it needs; the tag of 2014 is for an older pip."""
     libc = libc_needed()
     tags = [f"manylinux_{libc.replace('.', '_')}_x86_64"]
     tags += ["manylinux2014_x86_64"] * (int(libc.split(".")[1]) <= 17)
@@ -84,7 +85,7 @@ def archive(into: pathlib.Path, room: pathlib.Path, parts: Parts, wheel: pathlib
 
 
 def debian_package(into: pathlib.Path, room: pathlib.Path, parts: Parts) -> None:
-    """Makes the package, with files where Debian has them."""
+    """Makes the Debian package, with files in the places of Debian."""
     root = room / "package"
     usr = root / "usr"
     stage(usr, Layout("lib/x86_64-linux-gnu", "/usr"), parts)

@@ -1,4 +1,4 @@
-"""The programs of a release, and what they tell of themselves: this is the one list of them."""
+"""The programs of a release, and their help texts. This is the only list of the programs."""
 
 from __future__ import annotations
 
@@ -9,25 +9,25 @@ from typing import NamedTuple
 
 from making.tree import told
 
-# The name of each program's crate, and the documents that its page of the manual leads to.
+# The name of each program's crate, and the documents that its man page names.
 PROGRAMS = {
     "canbit": {"FORMATS": "the formats", "CODES": "every code that is printed"},
     "canhold": {"CONFORMANCE": "cases, transcripts and verdicts"},
-    "canplan": {"PLANNING": "networks, their documents and answers", "CODES": "every code that is printed"},
-    "cangates": {"CIRCUIT": "the circuit, its files and what is proved of it", "CODES": "every code that is printed"},
+    "canplan": {"PLANNING": "networks: documents and outputs", "CODES": "every code that is printed"},
+    "cangates": {"CIRCUIT": "the circuit, its files and their proofs", "CODES": "every code that is printed"},
 }
 _COMMAND = re.compile(r"  (\w[\w-]*) +(\S.*)")
 
 
 class Help(NamedTuple):
-    """A help text: its first line, the words of each way to call the program, and its other paragraphs."""
+    """A help text: its first line, the words of each usage line, and its other paragraphs."""
 
     summary: str
     usage: list[list[str]]
     paragraphs: list[list[str]]
 
     def block(self, head: str) -> list[str] | None:
-        """The paragraph whose first line begins so."""
+        """The paragraph whose first line begins with `head`."""
         return next((it for it in self.paragraphs if it[0].startswith(head)), None)
 
     def others(self, *heads: str) -> Iterator[list[str]]:
@@ -36,7 +36,7 @@ class Help(NamedTuple):
 
 
 class Program(NamedTuple):
-    """A program, its help text, and each of its commands: what it does, and its own help where it has one."""
+    """A program, its help text, and its commands: the effect of each, and its own help if it has one."""
 
     name: str
     help: Help
@@ -45,7 +45,7 @@ class Program(NamedTuple):
 
     @property
     def options(self) -> dict[str, bool]:
-        """The options with which it is called alone, but for help, and whether each has a word behind it."""
+        """The options without a command, except help, and whether each has an argument."""
         calls = (it for it in self.help.usage if it and it[0].startswith("--") and it != ["--help"])
         return {call[0]: len(call) > 1 for call in calls}
 
@@ -58,7 +58,7 @@ def _read(text: str) -> Help:
 
 
 def program(path: pathlib.Path) -> Program:
-    """What the program at this path tells of itself."""
+    """The help texts of the program at this path."""
     whole = told(path, "--help")
     text = _read(whole)
     lines = (text.block("Commands:") or ["Commands:"])[1:]

@@ -1,4 +1,4 @@
-"""What tests/all proved last: the record that it leaves in out/, and that a release is made by."""
+"""The record of the last tree that passed tests/all: it is left in out/, and a release needs it."""
 
 from __future__ import annotations
 
@@ -11,9 +11,9 @@ from making.programs import PROGRAMS
 from making.tree import TOP, Refusal, commit, told
 
 FILE = TOP / "out" / "proved.json"
-# It is as old as the begin of the run.
+# Its time is the beginning of the run.
 BEGUN = TOP / "out" / "begun"
-# What the gate built, and a release is made of.
+# The files that tests/all builds, and that are parts of a release.
 LIBRARY = ("bindings/out/libriddlesage.a", "bindings/out/libriddlesage.so")
 PAGE = "page/out/riddlesage.html"
 OBJECTS = {name: f"crates/{name}/out/{name}.o" for name in PROGRAMS}
@@ -22,7 +22,7 @@ PARTS = (*OBJECTS.values(), *LIBRARY, PAGE)
 
 @dataclasses.dataclass(frozen=True)
 class Sources:
-    """Sources by their commit, and by the sum that git has of all of them."""
+    """Sources: their commit, and the checksum of git for all of them."""
 
     commit: str
     tree: str
@@ -30,9 +30,9 @@ class Sources:
 
 @dataclasses.dataclass(frozen=True)
 class Record:
-    """A run of tests/all that passed: on which sources, by which toolchain, with which last line.
+    """A run of tests/all that passed: its sources, its toolchain, and its last line.
 
-    `left_out` is what lacked a tool or was not tried, and `parts` the sum of each file that it built.
+    `left_out` has the checks that lacked a tool or were not run, and `parts` the checksum of each file that it built.
     """
 
     sources: Sources
@@ -43,7 +43,7 @@ class Record:
 
 
 def sources() -> Sources | None:
-    """The sources as they are; None where some file is not as the commit has it, or there is no repository."""
+    """The current sources; None if a file differs from its commit, or there is no repository."""
     try:
         if told("git", "status", "--porcelain"):
             return None
@@ -53,13 +53,13 @@ def sources() -> Sources | None:
 
 
 def sums(since: float = 0) -> dict[str, str]:
-    """The sum of each file that a release is made of, and that is there and no older than this time."""
+    """The checksum of each part of a release that exists and is not older than this time."""
     files = {it: TOP / it for it in PARTS if (TOP / it).is_file() and (TOP / it).stat().st_mtime >= since}
     return {it: hashlib.sha256(path.read_bytes()).hexdigest() for it, path in files.items()}
 
 
 def leave(begun: Sources | None, result: str, left_out: list[str]) -> bool:
-    """Leaves the record of a run that passed, and tells whether it does: not where sources changed meanwhile."""
+    """Writes the record of a run that passed, unless the sources have changed; returns whether it did."""
     if begun is None or begun != sources():
         return False
     record = Record(begun, told("rt", "version"), result, left_out, sums(BEGUN.stat().st_mtime))
@@ -68,25 +68,25 @@ def leave(begun: Sources | None, result: str, left_out: list[str]) -> bool:
 
 
 def forget() -> None:
-    """Takes away the record, as a run does that begins, and notes when that is."""
+    """Removes the record when a run begins, and notes the time."""
     FILE.unlink(missing_ok=True)
     BEGUN.parent.mkdir(exist_ok=True)
     BEGUN.touch()
 
 
 def proved() -> Record:
-    """The record, where the tree is what it tells of; a Refusal where it is not."""
+    """The record, if it is that of the current tree; otherwise a Refusal."""
     if not FILE.is_file():
-        raise Refusal("tests/all has not passed on a clean tree here since it was run last")
-    told_then = json.loads(FILE.read_text("utf-8"))
-    record = Record(Sources(**told_then.pop("sources")), **told_then)
+        raise Refusal("tests/all has not passed on a clean tree here in its last run")
+    fields = json.loads(FILE.read_text("utf-8"))
+    record = Record(Sources(**fields.pop("sources")), **fields)
     now = sources()
     if now is None:
         raise Refusal("the tree has files that are not as its commit has them")
     if now.tree != record.sources.tree:
         raise Refusal(f"tests/all passed on commit {record.sources.commit}, and this is {now.commit}")
     if told("rt", "version") != record.toolchain:
-        raise Refusal(f"tests/all passed by {record.toolchain}, and this is {told('rt', 'version')}")
+        raise Refusal(f"tests/all passed with {record.toolchain}, and this is {told('rt', 'version')}")
     built = sums()
     if changed := [it for it in PARTS if built.get(it) != record.parts.get(it)]:
         raise Refusal(f"not as tests/all left it: {' '.join(changed)}")

@@ -1,4 +1,4 @@
-"""The files of a release, put where a system or an archive has them."""
+"""The files of a release, in the places of a system or an archive."""
 
 from __future__ import annotations
 
@@ -15,14 +15,14 @@ from making.record import LIBRARY, OBJECTS, PAGE
 from making.tree import TOP, VERSION, commit_time, told, toolchain, tracked
 
 SONAME = f"libriddlesage.so.{VERSION.split('.')[0]}"
-# What is of use without the repository, and what of it is not: the tests of what stands there.
+# Files that are useful without the repository, and those of them that are not: tests.
 BINDINGS = ("bindings/examples", "bindings/rust", "bindings/sv", "bindings/verilog", "bindings/vhdl")
 SHARED = ("conformance", "equivalence", "examples", *BINDINGS)
 OF_THE_REPOSITORY = (
     *("check", "record", "mechanical", "mutants", "mutations", "mistakes"),
     *("peer", "peers", "tests", ".clang-tidy"),
 )
-# The files of the controller's circuit, and the words by which cangates writes each.
+# The files of the circuit, and the arguments with which cangates writes each.
 CIRCUIT = {"v": ["verilog"], "aag": ["aiger"], "aig": ["aiger", "--binary"]}
 LGPL = pathlib.Path("/usr/share/common-licenses/LGPL-2.1")
 DOCUMENTS = (
@@ -39,7 +39,7 @@ DOCUMENTS = (
 
 
 class Layout(NamedTuple):
-    """Where a system has its libraries, below its prefix."""
+    """The place of libraries below the prefix of a system."""
 
     libraries: str
     # the prefix, and that of pkg-config's file
@@ -47,7 +47,7 @@ class Layout(NamedTuple):
 
 
 class Parts(NamedTuple):
-    """What the files are made of: the folder of the linked programs, what they tell, and the words on their origin."""
+    """The inputs of the files: the folder of the linked programs, their help texts, and the text on their origin."""
 
     programs: pathlib.Path
     told: list[Program]
@@ -55,7 +55,7 @@ class Parts(NamedTuple):
 
 
 def put(path: pathlib.Path, content: bytes | str, mode: int = 0o644) -> None:
-    """Writes a file, and the folders that it is in."""
+    """Writes a file, and makes its folders."""
     path.parent.mkdir(parents=True, exist_ok=True)
     path.write_bytes(content.encode("utf-8") if isinstance(content, str) else content)
     path.chmod(mode)
@@ -68,13 +68,13 @@ def link(path: pathlib.Path, to: str) -> None:
 
 
 def copy(name: str, to: pathlib.Path) -> None:
-    """Copies a file of the repository, which may be run where it may be there."""
+    """Copies a file of the repository; it stays executable."""
     file = TOP / name
     put(to, file.read_bytes(), 0o755 if os.access(file, os.X_OK) else 0o644)
 
 
 def stage(root: pathlib.Path, layout: Layout, parts: Parts) -> None:
-    """Puts all files that an archive and a package have in common below a folder."""
+    """Writes the files that an archive and a package have in common, below a folder."""
     share = root / "share"
     _programs(root, parts)
     _library(root, layout)
@@ -97,7 +97,7 @@ def _is_shared(name: str) -> bool:
 
 
 def _documents(folder: pathlib.Path, shared: set[str]) -> None:
-    """The documents and their pictures, with links to what the release has."""
+    """The documents and their pictures, with links to files of the release."""
     documents = [it for it in tracked(*DOCUMENTS) if it.endswith((".md", ".png", ".svg"))]
     for name in documents:
         if name.endswith(".md"):
@@ -107,7 +107,7 @@ def _documents(folder: pathlib.Path, shared: set[str]) -> None:
 
 
 def _programs(root: pathlib.Path, parts: Parts) -> None:
-    """The programs, and what they are linked of, for whoever wants another C library in them."""
+    """The programs, and their object files, for users who want to link another C library."""
     share = root / "share"
     for part in linked():
         put(root / "lib" / "riddlesage" / part.name, part.read_bytes())
@@ -134,22 +134,22 @@ def _library(root: pathlib.Path, layout: Layout) -> None:
 
 
 def linked() -> list[pathlib.Path]:
-    """What the programs are linked of, besides the C library."""
+    """The object files and libraries of the programs, without the C library."""
     return [*(TOP / it for it in OBJECTS.values()), *(toolchain() / "c" / it for it in ("libos_c.a", "liblibc_c.a"))]
 
 
 def _notices() -> dict[str, bytes]:
-    """The licences of the toolchain's libraries that the programs hold, which ask to be handed on."""
+    """The licences of the libraries of the toolchain in the programs, which must be passed on."""
     lines = (it.partition(":") for it in (TOP / "crates.txt").read_text("utf-8").splitlines() if not it.startswith("#"))
     used = {name for _, _, names in lines for name in names.split()}
-    # of which those of toml come with it
+    # toml brings further libraries
     files = (file for name in [*used, "toml_*"] for file in (toolchain() / "rattle").glob(f"{name}/LICENSE*"))
     notices = {f"{it.parent.name}-{it.name}": it.read_bytes() for it in files}
     return {**notices, "glibc-LICENSE-LGPL-2.1": LGPL.read_bytes()}
 
 
 def settled(root: pathlib.Path) -> pathlib.Path:
-    """The folder, of which each folder can be read by all."""
+    """The folder, with all its folders readable for everyone."""
     for folder in [root, *(it for it in root.rglob("*") if it.is_dir() and not it.is_symlink())]:
         folder.chmod(0o755)
     return root

@@ -1,4 +1,4 @@
-"""The repository, and the commands that tell of it."""
+"""The repository, and the commands that inspect it."""
 
 from __future__ import annotations
 
@@ -12,11 +12,11 @@ VERSION = (TOP / "VERSION").read_text("ascii").strip()
 
 
 class Refusal(Exception):
-    """Why no release is made."""
+    """The reason why no release is made."""
 
 
 def told(*command: str | pathlib.Path) -> str:
-    """What a command prints, in the tree's top, without the last line's end."""
+    """The output of a command, run at the top of the tree, without the last line end."""
     ran = subprocess.run(
         command, cwd=TOP, check=True, stdout=subprocess.PIPE, stdin=subprocess.DEVNULL, text=True, errors="replace"
     )
@@ -24,7 +24,7 @@ def told(*command: str | pathlib.Path) -> str:
 
 
 def tracked(*patterns: str) -> list[str]:
-    """The files of the repository below these paths, by name: those that are committed, and those that could be."""
+    """The names of the files below these paths, sorted: those that are committed, and those that could be."""
     return sorted(told("git", "ls-files", "--cached", "--others", "--exclude-standard", "--", *patterns).splitlines())
 
 
@@ -35,12 +35,12 @@ def commit() -> str:
 
 @functools.cache
 def commit_time() -> int:
-    """When it was made, in seconds: the time of all files of a release."""
+    """The time of the commit in seconds, which is that of all files of a release."""
     return int(told("git", "log", "-1", "--format=%ct"))
 
 
 def kits() -> list[str]:
-    """The kits of the toolchain by which all was proved, as README names them."""
+    """The kits of the toolchain with which all was proved, as README names them."""
     return sorted(set(re.findall(r"`(rattle-kit-\w+)`", (TOP / "README.md").read_text("utf-8"))))
 
 
