@@ -113,7 +113,7 @@ class Traffic:
             self._contest(wire)
         elif kind < 0.8:
             self._scene.sending(frame, wire.place("ack"))
-            self._scene.play(self._random.choice(("1", "10", "1110")), "no acknowledgment")
+            self._scene.play(self._random.choice(("1", "10", "1110")), "no acknowledgement")
         else:
             self._scene.sending(frame, place)
             self._scene.play("f" if kind < 0.9 else "0", "another level on the bus")

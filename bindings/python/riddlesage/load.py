@@ -237,7 +237,7 @@ def _arguments(words: Sequence[str] | None) -> argparse.Namespace:
     parser.add_argument("log", metavar="LOG", help=log)
     parser.add_argument("--bitrate", type=_number, required=True, metavar="N", help="bit rate, in bits per second")
     parser.add_argument("--channel", metavar="NAME", help="only this channel; without it all")
-    slack = f"frames at most so many bit times apart count as back to back; default {SLACK}"
+    slack = f"frames at most this number of bit times apart count as back to back; default {SLACK}"
     parser.add_argument("--slack", type=_number, default=SLACK, metavar="BITS", help=slack)
     options = parser.parse_args(words)
     if not options.bitrate:
