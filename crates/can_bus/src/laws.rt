@@ -113,7 +113,7 @@ pub fn a_call_without_hits_is_quiet()
     ensures tally { (queue frames : List Parts) → ((tally queue frames []).tec ≡ 0) × ((tally queue frames []).rec ≡ 0) }
 {}
 
-/// A new bus of the ports of [`a_quiet_bus_can_be_made`] can have a repaired call. The hits are in order and in the
+/// A new bus of the ports of `a_quiet_bus_can_be_made` can have a repaired call. The hits are in order and in the
 /// windows of different attempts, and there are at most fifteen, or all ports stay error active. Such hits are
 /// accepted. No window is empty: it has the last but one level of the end of frame.
 pub fn a_repaired_call_can_be_made()

@@ -46,9 +46,9 @@ pub fn a_network_call_can_follow()
         IsNextCall offers course before.ports next struck behind → IsNetworkCall next struck after behind }
 {}
 
-/// A new bus of idle ports that are offered frames, as in [`crate::a_quiet_bus_can_be_made`], with planned offers and
-/// hits, is a network. So is a bus with one frame that is offered to its port again and again, at any times in order,
-/// with at most fifteen hits, at most one per attempt, anywhere in its window.
+/// A new bus of idle ports that are offered frames, as in `a_quiet_bus_can_be_made`, with planned offers and hits, is
+/// a network. So is a bus with one frame that is offered to its port again and again, at any times in order, with at
+/// most fifteen hits, at most one per attempt, anywhere in its window.
 pub fn a_network_can_be_made()
     ensures call { (offers : List Offer) (hits : List Disturbance) (plans : List PlannedPort) → IsNetworkPlan offers hits plans →
         IsNetworkCall offers hits (new_bus (map ready_port plans)) (network_course offers hits (map ready_port plans)) }

@@ -28,9 +28,9 @@ pub fn offers_at_once_are_quiet()
     ensures levels { (offers : List Offer) (t : ℕ) (bus : BusState) → AreAtOnce (map timed offers) → played_level offers t bus ≡ bus_level [] t (with_first offers bus) }
 {}
 
-/// Idle new ports that are offered frames, as in [`crate::a_quiet_bus_can_be_made`], and any offers to them in order,
-/// meet the premises of `play`'s theorem. No two frames have the same arbitration field, and each queue and each log
-/// has capacity for all frames.
+/// Idle new ports that are offered frames, as in `a_quiet_bus_can_be_made`, and any offers to them in order, meet the
+/// premises of `play`'s theorem. No two frames have the same arbitration field, and each queue and each log has
+/// capacity for all frames.
 pub fn an_open_bus_can_be_made()
     ensures { (offers : List Offer) (plans : List PlannedPort) → IsOpenPlan offers plans →
         IsOpenCall offers (map ready_port plans) (schedule (all_offers offers (map ready_port plans))) }
