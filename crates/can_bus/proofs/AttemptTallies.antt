@@ -74,7 +74,7 @@ pub holds-part : (f : Parts) (p : PortState) (part : TakesPart f p) → holds p.
 holds-part f p (inl sends) = holds-own f p.queue (sends-has f p sends)
 holds-part f p (inr receives) = holds-none f p.queue (others-of f p.queue (waiting p.queue) refl receives.other)
 
--- behind the ACK slot a receiver has counted a reception
+-- after the ACK slot a receiver has counted a reception
 pub slot-tally : (h : ℕ) (f : Parts) (o : ℕ) (c : ConfineParts) → IsWithin h c →
     tally_of (counters_after Receiver c (behind_part f o)) ≡ (if nat_lt (slot_place f) o then after_reception (tally_of c) else tally_of c)
 slot-tally h f o c within = elim (cases_lt (slot_place f) o) [

@@ -20,7 +20,7 @@ use Rattle.can_bus.proofs.RepairPlans.{few-made, frames_left, hit-cases, struck-
 abbrev Few : ℕ → Tally → Type 0
 Few n t = (t.tec ≤ 8 * n) × (t.rec ≤ n)
 
--- what a receiver has counted where it is hit, the reception before or not
+-- what a receiver has counted when it is hit, with the reception before or without it
 fewer-or-same : (b : Bool) (t : Tally) → (if b then after_reception t else t).rec ≤ t.rec
 fewer-or-same true t = omega arith
 fewer-or-same false t = omega arith
