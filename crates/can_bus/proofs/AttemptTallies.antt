@@ -47,7 +47,7 @@ pub counted-on : (h : ℕ) (cause : Cause) (c : ConfineParts) → IsWithin h c �
 counted-on h cause c within = cond-false (is_bus_off c) c (changed cause c) (on-bus h c within)
 
 -- what can_fault counts, at an error active port, is what the tally says of a frame that is sent, of one that is received, and of an error
--- at its sender and at a receiver
+-- at its transmitter and at a receiver
 module _ (h : ℕ) (c : ConfineParts) (within : IsWithin h c) where
   tally-by : (cause : Cause) (t : Tally) → tally_of (changed cause c) ≡ t → tally_of (counted cause c) ≡ t
   tally-by cause t same = ap tally_of (counted-on h cause c within) ∙ same

@@ -93,7 +93,7 @@ by_then = refl
 
 -- ---- counters
 
--- the sender of 009 in the course that is overtaken, and the port of 000
+-- the transmitter of 009 in the course that is overtaken, and the port of 000
 overtaken_sender : course_tally (frame_009 ∷ []) overtaken (counts 0 0) ≡ counts 7 0
 unfolding stuffed_part unstuffed stuffed crc_of head arbitration_field bits_of
 overtaken_sender = refl

@@ -42,7 +42,7 @@ none_tested rest wired recorded from n tested t low high =
     grind (arith, told)
 
 -- The standard data frame 000 without data and a receiver. The reserved bit, at 16, is inverted on the wire: a bit
--- error to the sender, whose flag follows, and then a stuff error to the receiver, whose flag follows that. With 40
+-- error to the transmitter, whose flag follows, and then a stuff error to the receiver, whose flag follows that. With 40
 -- the frame begins again.
 
 abbrev frame_again : List ℕ
@@ -102,7 +102,7 @@ sender_and_receiver = port_offered frame_zero (fresh_port idle 1 1) ∷ fresh_po
 abbrev both_saw : List (List Level)
 both_saw = recorded_once ∷ recorded_once ∷ []
 
--- the sender's flag goes on up to 22 and the receiver's up to 28, and with 40 the sender starts again
+-- the transmitter's flag goes on up to 22 and the receiver's up to 28, and with 40 the transmitter starts again
 driven_then : map (λ t. wired_of (map port_drives (played_then [] t 0 sender_and_receiver both_saw))) (16 ∷ 17 ∷ 22 ∷ 23 ∷ 28 ∷ 29 ∷ 39 ∷ 40 ∷ []) ≡ levels_of (codes "00000110")
 unfolding wired_of port_drives mac_drives port_step waiting without mac_step agrees crc_of frame_of frame_len bits_of unstuffed head arbitration_field
 driven_then = refl

@@ -1,4 +1,4 @@
--- How many bit times later than the sender the receivers of a frame that is hit have their error.
+-- How many bit times later than the transmitter the receivers of a frame that is hit have their error.
 use Rattle.std.specs.Prelude.{option_and_then, ◌↔◌}
 use Rattle.std.proofs.Common.{◌≡◌, ◌≢◌, ℕ, zero, suc, ◌+◌, ◌-◌, ◌<◌, ◌≤◌, ◌⊎◌, true, false, Option, Some, None, List, [], ◌∷◌, ◌++◌, length, take, drop, replicate, refl, sym, ◌∙◌, ap, subst, arith, inl, inr, append_assoc, length-append}
 use Rattle.std.proofs.Math.Dec.{eqb}

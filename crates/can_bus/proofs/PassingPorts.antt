@@ -77,7 +77,7 @@ module _ (f : Parts) (is : IsFrame f) (o : ℕ) (within : o < length (with_inter
   abbrev drive : PortState → Level
   drive p = port_drives (port_run p (take o (with_intermission f)))
 
-  -- the sender, a receiver, and a port that takes no part
+  -- the transmitter, a receiver, and a port that takes no part
   sender : (p : PortState) → PassesFrom f p → drive p ≡ x
   sender p own = run-drives f p (Some f) (enters-from f is p own) o within ∙ ap (λ r. role_drives f r o) (role-own f o)
 
@@ -93,7 +93,7 @@ module _ (f : Parts) (is : IsFrame f) (o : ℕ) (within : o < length (with_inter
   abbrev wire : List PortState → Level
   wire ports = wired (map drive ports)
 
-  -- over the level of the sender this one comes to the same, or to the level of the frame
+  -- over the level of the transmitter this one comes to the same, or to the level of the frame
   abbrev Adds : Level → Type 0
   Adds d = (over x d ≡ x) ⊎ (over x d ≡ l)
 
@@ -127,7 +127,7 @@ module _ (f : Parts) (is : IsFrame f) (o : ℕ) (within : o < length (with_inter
   received (p ∷ ports) valid add (inl here) = one_more x l (drive p) (wire ports) (receiver p valid.0 here) (wire-adds ports add.1)
   received (p ∷ ports) valid add (inr there) = rest_more x l (drive p) (wire ports) add.0 (received ports valid.1 add.1 there)
 
-  -- and the sender's is in it
+  -- and the transmitter's is in it
   sent : (ports : List PortState) → PassesBus f ports → over x (wire ports) ≡ wire ports
   unfolding wired
   sent [] passes = absurd passes

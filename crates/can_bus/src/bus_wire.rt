@@ -147,7 +147,7 @@ impl Wire {
     }
 
     /// Runs one bit time, in which this level is driven, and returns the level of the bus line: the opposite one if a
-    /// hit falls on it. The hits may be in any order, and others in each bit time. Its time is proportional to them;
+    /// hit falls on it. The hits may be in any order, and others in each bit time. Its work is proportional to them;
     /// it allocates no memory.
     pub fn level(&mut self, driven: Level, hits: &[Hit]) -> Level
         requires time { self.old.time < 2 ^ 64 - 1 }

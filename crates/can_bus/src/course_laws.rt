@@ -40,7 +40,7 @@ pub fn a_course_at_once_ascends()
 ///
 /// So a frame waits at most for the rest, for the frames that go before it and are offered before it starts, and for
 /// the attempts that are hit in between. An attempt that is hit keeps the bus at most thirteen bit times longer than
-/// its frame and intermission. Without hits the terms are those of [`waiting_is_bounded`]. If no two offers have the
+/// its frame and intermission. Without hits the terms are those of `waiting_is_bounded`. If no two offers have the
 /// same field, only higher-priority frames offered before its start go before it, and for no longer than these take.
 pub fn waiting_on_a_network_is_bounded()
     ensures in_time { (offers : List Offer) (ports : List PortState) → AreOffered (length ports) offers → AreInTime (all_offers offers ports) }

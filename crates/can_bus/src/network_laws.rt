@@ -37,8 +37,8 @@ pub fn a_call_is_a_disturbed_play()
 {}
 
 /// After a call on a network the next call is on a network too. The bus is at rest again after the first, as
-/// [`crate::Bus::play_disturbed`] promises, and the next offers and hits are as required. What is required of the
-/// ports follows from their state before the first call, and from its course.
+/// `Bus::play_disturbed` promises, and the next offers and hits are as required. What is required of the ports
+/// follows from their state before the first call, and from its course.
 pub fn a_network_call_can_follow()
     ensures { (offers next : List Offer) (hits struck : List Disturbance) (before after : BusState) (course behind : List Transmission) →
         IsNetworkCall offers hits before course → RestsAgain before after →

@@ -21,7 +21,7 @@ module _ (f g : Parts) (m : MacState) (waits : ℕ → Option Parts) (start : St
       let more = parts.within in
       record { some = some; within = omega (arith, length-with_intermission f); no_wish = λ past. absurd (omega (arith, past, length-wire f)) }
 
-  -- up to there it is a sender
+  -- up to there it is a transmitter
   pub contender-sends : (o : ℕ) → 0 < o → o ≤ place → (state_after m waits (with_intermission f) o).role ≡ Sender g
   contender-sends o some within =
       let more = parts.within in

@@ -78,7 +78,7 @@ EndsSpelled-received r levels agreed h =
       ends = h.heard.ends;
     }
 
--- at the last level of the end of frame a sender has seen its own wire
+-- at the last level of the end of frame a transmitter has seen its own wire
 pub EndsIn-sent : (f : Parts) (r : Reading) (levels : List Level) → HeardSlot (Sender f) r (to_end 7) levels → EndsIn (wire f) levels
 EndsIn-sent f r levels h =
     let whole : h.heard.part ++ to_end 7 h.ack ≡ wire f = ap (λ a. h.heard.part ++ to_end 7 a) h.fits ∙ ap (λ p. p ++ to_end 7 Dominant) h.heard.own.part_is in

@@ -75,7 +75,7 @@ end_state f role pending c k = record {
 abbrev pub end_levels : List Level
 end_levels = tail Dominant Recessive ++ (Recessive ∷ Recessive ∷ Recessive ∷ [])
 
--- each of these levels makes the next state, at a receiver and at the sender
+-- each of these levels makes the next state, at a receiver and at the transmitter
 module _ (f : Parts) (c : ConfineParts) (on : is_bus_off c ≡ false) (waiting : Option Parts) where
   abbrev Steps : Role → ℕ → ℕ → Type 0
   Steps role pending k = mac_step (end_state f role pending c k) waiting (level_at end_levels k) ≡ (end_state f role pending c (k + 1), end_event f role k)
@@ -107,7 +107,7 @@ module _ (f : Parts) (c : ConfineParts) (on : is_bus_off c ≡ false) (waiting :
   unfolding mac_step
   sender-sends pending = rw (on-sent c on) refl
 
-  -- the last level of intermission, at a sender that is not error passive
+  -- the last level of intermission, at a transmitter that is not error passive
   sender-rests : (pending : ℕ) → is_passive (counted FrameSent c) ≡ false → Steps (Sender f) pending 12
   unfolding mac_step
   sender-rests pending awake = rw awake refl

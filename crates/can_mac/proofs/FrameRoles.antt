@@ -43,7 +43,7 @@ module _ (f g : Parts) (o : ℕ) where
       cond-false (pointwise same (take o (with_intermission g)) (take o (with_intermission f))) (Sender g) Receiver
       (false_from_ne_true _ (λ e. apart ((pointwise_decides same-Decides (take o (with_intermission g)) (take o (with_intermission f))).0 e)))
 
--- the sender of f
+-- the transmitter of f
 pub role-own : (f : Parts) (o : ℕ) → role_at f (Some f) o ≡ Sender f
 role-own f o = role-alike f f o refl
 
@@ -197,7 +197,7 @@ line-first : (f : Parts) → take 1 (with_intermission f) ≡ Dominant ∷ []
 unfolding stuffed_part unstuffed stuffed head
 line-first f = refl
 
--- all senders start alike
+-- all transmitters start alike
 pub role-start : (f g : Parts) → role_at f (Some g) 1 ≡ Sender g
 role-start f g = role-alike f g 1 (line-first g ∙ sym (line-first f))
 

@@ -42,7 +42,7 @@ outcome m told = (m, told)
 pub some_part : (f : Parts) → IsFrame f → 1 < length (stuffed_part f)
 some_part f is = omega (arith, IsPart-length (unstuffed f) (stuffed_part f) (stuffed_part-part f is))
 
--- with the last level of intermission its sender is idle: it is not error passive
+-- with the last level of intermission its transmitter is idle: it is not error passive
 abbrev pub Awake : Parts → Option Parts → ConfineParts → ℕ → Type 0
 Awake f waiting c o = o + 1 ≡ length (with_intermission f) → role_at f waiting o ≡ Sender f → is_passive (counted FrameSent c) ≡ false
 

@@ -28,7 +28,7 @@ EndsIn stretch levels = (before : List Level) × (levels ≡ before ++ stretch)
 pub EndsIn-more : (stretch levels : List Level) (x : Level) → EndsIn stretch levels → EndsIn (stretch ++ x ∷ []) (levels ++ x ∷ [])
 EndsIn-more stretch levels x h = (h.0, ap (λ l. l ++ x ∷ []) h.1 ∙ append_assoc h.0 stretch (x ∷ []))
 
--- what a sender of f has heard is the front of its own first o levels, and these are the part so far
+-- what a transmitter of f has heard is the front of its own first o levels, and these are the part so far
 pub record OwnFront (f : Parts) (part : List Level) (front : FrontParts) : Type 0 where
   pub is : IsFrame f
   pub o : ℕ

@@ -80,11 +80,11 @@ module _ (passive : Bool) (overloads : Overloads) (levels : List Level) where
       no_error-bit : is_stuff_error front x ≡ false
       no_error-bit = ap (λ b. b && same x front.last) not_due
 
-      -- the level that a sender sent is its own
+      -- the level that a transmitter sent is its own
       sent-own : (f : Parts) (h : HearsPart (Sender f) front levels) → sent_level f (length front.unstuffed) ≡ x → IsOwnFront (Sender f) (h.part ++ x ∷ []) (heard_level front x)
       sent-own f h sent = OwnFront-bit f h.part front h.own h.goes_on x (eqb-false front.run 5 not_due) sent
 
-  -- at another place, to a sender
+  -- at another place, to a transmitter
   sent_bit-knows : (front : FrontParts) (f : Parts) (driven x : Level) → eqb front.run 5 ≡ false → HearsPart (Sender f) front levels → sent_level f (length front.unstuffed) ≡ driven
       → KnowsAfter (sent_bit_move (acting (Sender f)) f front driven x) (levels ++ x ∷ [])
   sent_bit-knows front f Dominant Dominant not_due h sent =

@@ -51,7 +51,7 @@ pub stuffed_part-first : (f : Parts) → stuffed_part f ≡ Dominant ∷ drop 1 
 unfolding stuffed_part unstuffed stuffed head
 stuffed_part-first f = refl
 
--- so with it a sender has heard a front of its own
+-- so with it a transmitter has heard a front of its own
 pub OwnFront-first : (f : Parts) → IsFrame f → OwnFront f (Dominant ∷ []) first_front
 OwnFront-first f is = record {
   is = is;

@@ -87,7 +87,7 @@ receiver phase = record idle { phase = phase }
 abbrev pub sender_of : Parts → MacPhase → MacState
 sender_of f phase = record idle { phase = phase; role = Sender f }
 
--- the sender of frame 001
+-- the transmitter of frame 001
 abbrev pub sender : MacPhase → MacState
 sender phase = sender_of frame_001 phase
 

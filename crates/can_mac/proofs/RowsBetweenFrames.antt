@@ -98,7 +98,7 @@ overloads_kept_while_idle : Leads None (with_overloads 1 2 (receiver (Intermissi
 unfolding mac_step
 overloads_kept_while_idle = (refl, refl)
 
--- [Kept frame] A sender of frame 001 has sent its start of frame. From then on frame 000 waits, or nothing: it
+-- [Kept frame] A transmitter of frame 001 has sent its start of frame. From then on frame 000 waits, or nothing: it
 -- sends frame 001 all the same.
 
 kept_while_another_waits : Leads (Some (standard 0)) (sender (StuffedPart first_front)) (drop 1 part_001 ++ tail) (at 45 (Sent frame_001) ∷ []) (sender (Intermission 0))
@@ -159,8 +159,8 @@ first_bit_of_the_identifier_dominant : mac_drives (sender_of (standard 0) (Stuff
 unfolding mac_drives mac_step unstuffed head arbitration_field crc_of bits_of
 first_bit_of_the_identifier_dominant = refl
 
--- [Suspend transmission] An error passive sender waits eight recessive levels more, silent, and is idle with the
--- eighth. A receiver doesn't, nor an error active sender (above).
+-- [Suspend transmission] An error passive transmitter waits eight recessive levels more, silent, and is idle with the
+-- eighth. A receiver doesn't, nor an error active transmitter (above).
 
 suspend_begins : Leads (Some frame_001) (with_tec 128 (sender (Intermission 0))) (codes "111") [] (with_tec 128 (sender (Suspend 0)))
 unfolding mac_step

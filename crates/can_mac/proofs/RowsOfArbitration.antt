@@ -35,7 +35,7 @@ receiving text = comes_to None text
 abbrev drives_behind : Parts → List ℕ → List Told × Level
 drives_behind f text = (events 0 (Some f) idle (levels_of text), mac_drives (run (Some f) idle (levels_of text)) None)
 
--- one error of a sender
+-- one error of a transmitter
 abbrev by_8 : ConfineParts
 by_8 = record fresh { tec = 8 }
 
@@ -145,7 +145,7 @@ sixth_with_a_stuff_bit_received : receiving (codes "00000111111") ≡ (at 10 (Er
 unfolding mac_step frame_len
 sixth_with_a_stuff_bit_received = refl
 
--- A sender's dominant stuff bit, seen recessive, counts 8 in arbitration too.
+-- A transmitter's dominant stuff bit, seen recessive, counts 8 in arbitration too.
 dominant_stuff_bit_not_on_the_bus : sending (standard 0x7ff) (codes "0111111") ≡ (at 6 (Error Stuff) ∷ [], Sender (standard 0x7ff), by_8)
 unfolding mac_step unstuffed head arbitration_field crc_of bits_of frame_len
 dominant_stuff_bit_not_on_the_bus = refl

@@ -214,7 +214,7 @@ unfolding mac_step
 delimiter_at_a_sender = (refl, refl)
 
 -- [Delimiter] At its places 2 to 7, which have 1 to 6 levels before them, a dominant level is a form error, to
--- receiver and sender. At the eighth place it is an overload condition, which counts nothing.
+-- receiver and transmitter. At the eighth place it is an overload condition, which counts nothing.
 
 broken_delimiter_receiver : each receiver (λ place. Delimiter place) Dominant (1 ∷ 2 ∷ 3 ∷ 4 ∷ 5 ∷ 6 ∷ []) ≡ replicate 6 (with_rec 1 (receiver (ErrorFlag 0)), Some (Error Form))
 unfolding mac_step
@@ -273,7 +273,7 @@ both_overloads : Leads None (with_overloads 2 0 (receiver (EndOfFrame read_001 6
 unfolding mac_step
 both_overloads = (refl, refl)
 
--- A sender starts none; what it asked for stays.
+-- A transmitter starts none; what it asked for stays.
 no_overload_of_a_sender : Leads None (with_overloads 2 0 (sender (EndOfFrame read_001 6))) (codes "1") (at 0 (Sent frame_001) ∷ []) (with_overloads 2 0 (sender (Intermission 0)))
 unfolding mac_step
 no_overload_of_a_sender = (refl, refl)

@@ -32,7 +32,7 @@ unfolding mac_step agrees crc_of frame_of frame_len bits_of
 refusing_behind_the_part = (refl, refl)
 
 -- [Fixed form] A dominant CRC delimiter or ACK delimiter is a form error to a receiver, who counts 1, and a bit
--- error to the sender, who counts 8.
+-- error to the transmitter, who counts 8.
 
 crc_delimiter_received : Leads None (receiver (CrcDelimiter read_001)) (codes "0") (at 0 (Error Form) ∷ []) (with_rec 1 (receiver (ErrorFlag 0)))
 unfolding mac_step
@@ -50,7 +50,7 @@ ack_delimiter_sent : Leads None (sender (AckDelimiter read_001)) (codes "0") (at
 unfolding mac_step
 ack_delimiter_sent = (refl, refl)
 
--- [Fixed form], [Frame validation] In the end of frame a dominant level is a bit error to the sender at each of
+-- [Fixed form], [Frame validation] In the end of frame a dominant level is a bit error to the transmitter at each of
 -- its seven places, and a form error to a receiver at the first six.
 
 end_of_frame_sent : each sender (λ place. EndOfFrame read_001 place) Dominant (0 ∷ 1 ∷ 2 ∷ 3 ∷ 4 ∷ 5 ∷ 6 ∷ []) ≡ replicate 7 (with_tec 8 (sender (ErrorFlag 0)), Some (Error Bit))
@@ -126,7 +126,7 @@ sender_acknowledged : Leads None (with_tec 5 (sender (AckSlot read_001))) (codes
 unfolding mac_step
 sender_acknowledged = (refl, refl)
 
--- Nobody acknowledged: 8 at an error active sender.
+-- Nobody acknowledged: 8 at an error active transmitter.
 sender_unacknowledged : Leads None (sender (AckSlot read_001)) (codes "1") (at 0 (Error Ack) ∷ []) (with_tec 8 (sender (ErrorFlag 0)))
 unfolding mac_step
 sender_unacknowledged = (refl, refl)

@@ -28,8 +28,8 @@ const LAST_OCCURRENCE: u8 = 127;
 
 /// The medium access of a controller, bit time by bit time. (Bosch CAN 2.0 part B, sections 3.2 and 7)
 ///
-/// `B` holds the unstuffed levels of the frame on the bus. No call allocates memory, and the time of a call does not
-/// depend on how long the controller has run.
+/// `B` holds the unstuffed levels of the frame on the bus. No call allocates memory, and none depends on how long the
+/// controller has run.
 #[derive(Drop)]
 pub struct MediumAccess<B: FrameBits> {
     phase: Phase<Front<B>>,

@@ -159,7 +159,7 @@ module _ (f : Parts) (p : PortState) (next : Option Parts) (enters : Enters f p 
         let here : behind_part f o ≡ k = omega (arith, at) in
         state-late f enters.frame next pending c o past ∙ ap (λ r. end_state f r pending c (behind_part f o)) (keeps o past) ∙ ap (end_state f role pending c) here
 
-  -- f stays in the queue of its sender until it is noted
+  -- f stays in the queue of its transmitter until it is noted
   pub keeps-own : next ≡ Some f → (o : ℕ) → o < length (with_intermission f) → o ≤ length (stuffed_part f) + 9 → (port_run p (take o (with_intermission f))).queue ≡ p.queue
   keeps-own own o within early =
       ap (λ (q : PortState). q.queue) (runs-early o within) ∙ goes o

@@ -76,7 +76,7 @@ enters s Receiver = either (nat_lt 0 s.overloads.pending && nat_lt s.overloads.u
 begins-stuff_bit : (s : Stance) (front : FrontParts) (x : Level) → BeginsWait (stuff_bit_move s front x)
 begins-stuff_bit s front x = either (same x front.last) (either (is_uncounted s.role front.unstuffed x) (error _ _ _ _) (error _ _ _ _)) (calm refl)
 
--- another place of the stuffed part, to a sender
+-- another place of the stuffed part, to a transmitter
 begins-sent_bit : (s : Stance) (f : Parts) (front : FrontParts) (driven x : Level) → BeginsWait (sent_bit_move s f front driven x)
 begins-sent_bit s f front Dominant Dominant = calm refl
 begins-sent_bit s f front Recessive Recessive = calm refl

@@ -147,8 +147,8 @@ impl<B: FrameBits> Node<B> {
         }
     }
 
-    /// Whether it receives the frame that `leader` also takes part in, and can no longer send its own frame, whose
-    /// arbitration field has passed. (Bosch CAN 2.0 part B, section 3.1)
+    /// Whether it receives the frame that `leader` also takes part in, and can no longer send a frame of its own: it
+    /// starts with none, or the arbitration field of that has passed. (Bosch CAN 2.0 part B, section 3.1)
     fn has_lost(&self, leader: &Self, frame: &Frame) -> bool
         requires { LetsPass frame.now (⟦<Node<B> as Port>⟧.port self.now) }
         ensures part { IsTrue result → (front : FrontParts) × (leader.now.mac.phase ≡ Phase.StuffedPart front) }

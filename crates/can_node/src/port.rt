@@ -63,8 +63,8 @@ pub trait Port {
         Poised::Not
     }
 
-    /// Samples the levels of a whole frame and its intermission. The frame may pass the port in one step, and has
-    /// priority over the frame with which the port starts, or is that frame.
+    /// Samples the levels of a whole frame and its intermission. The frame may pass the port in one step, and the
+    /// port starts with this frame, with one of lower priority, or with none.
     fn take_frame(&mut self, frame: &Frame, levels: &[Level])
         requires whole { IsFrame frame.now }
         requires levels { levels.now ≡ with_intermission frame.now }

@@ -40,7 +40,7 @@ abbrev pub entries_of : Parts → List Entry → List Entry
 entries_of f log = filter (λ entry. same_field f entry.frame) log
 
 -- After its earlier entries, the log of a port has the frame of the release at this place: if n releases of its arbitration field come
--- before it, it is entry n of this field. It is marked as sent if the port had it to send.
+-- before it, it is entry n of this field, counted from 0. It is marked as sent if the port had it to send.
 abbrev pub LogNames : List Offer → List Release → ℕ → Release → ℕ → PortState → PortState → Type 0
 LogNames offers releases place r node p q =
     slice_get (entries_of r.frame (drop (length p.log) q.log)) (length (of_field r.frame (take place (map offer_of releases))))

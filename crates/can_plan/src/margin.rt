@@ -82,8 +82,8 @@ fn misses_deadline(deadline: u64, bound: Option<u64>) -> bool
 /// deadline as a bound. Each deadline is at the place of its message. It returns `None` if the unchanged network does
 /// not meet them, and if a period is 0. It allocates memory for the messages.
 ///
-/// It is a binary search over at most seventeen networks. If a message is the first to miss its deadline with some
-/// change, no message before it does with less, so the analysis of smaller changes starts at this message.
+/// It is a binary search over at most seventeen networks. If a message is the first that may miss its deadline with
+/// some change, none before it may with less, so the analysis of smaller changes starts at this message.
 pub fn margin_of(
     alloc: Global,
     strain: Strain,

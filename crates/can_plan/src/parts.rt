@@ -96,7 +96,7 @@ fn ranked_latest(
 /// - `hits_cost`
 /// - its wire, which is `longest` less three bit times
 ///
-/// Its time is that of [`crate::response_bound`], and proportional to the frames of this message before the latest
+/// Its work is that of [`crate::response_bound`], and proportional to the frames of this message before the latest
 /// one.
 pub fn latest_frame(
     bound: u64,

@@ -259,7 +259,7 @@ pub(crate) fn are_periodic(messages: &[Message]) -> bool
 /// - the messages are in priority order, no two with the same field, and none with a `longest` of 0
 /// - the releases keep to the messages, and the hits to the error model
 ///
-/// Its time is proportional to the messages, to the frames of this one in a busy period, and to the steps of the sums
+/// Its work is proportional to the messages, to the frames of this one in a busy period, and to the steps of the sums
 /// that grow up to the limit. For all messages of a network [`crate::Responses`] takes fewer steps.
 pub fn response_bound(messages: &[Message], place: usize, rate: &HitRate, limit: u32) -> Option<u64>
     ensures least { (message : Sent) → slice_get messages.now place ≡ Some message → ArePeriodic messages.now → let ranking = ranking_at messages.now place message in

@@ -118,7 +118,7 @@ impl<P: Port> Bus<P> {
     /// Runs a whole frame and its intermission, with the offers that fall in it. These are made after the frame, to
     /// the same effect, if the transmitter's queue has space for those to its port. `driven` is the wired level, and
     /// the offers of the first bit time have been made. It returns 0 if no offer falls in the longest frame, and
-    /// leaves the frame to [`Bus::pass_frame`].
+    /// leaves the frame to `pass_frame`.
     #[inline(always)]
     pub(super) fn pass_open_frame(
         &mut self,

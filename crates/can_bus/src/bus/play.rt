@@ -20,7 +20,7 @@ impl<P: Port> Bus<P> {
     ///
     /// No offer may be earlier than the one before it, and each must name a port of the bus. Otherwise it returns the
     /// first fault, the order being checked before the port; nothing has run, and `rec` and all ports are unchanged.
-    /// It allocates no memory. Its time is proportional to the offers, and to ports and bit times; a bus at rest
+    /// It allocates no memory. Its work is proportional to the offers, and to ports and bit times; a bus at rest
     /// takes no time per port.
     ///
     /// On an open bus: it has two ports or more, all idle, with both counters 0 and no overload frame requested; each

@@ -122,7 +122,7 @@ impl<P: Port> Bus<P> {
     }
 
     /// Runs one bit time for each place of `rec`, with offers and hits, and records the level of each. It returns how
-    /// many offers found a full queue. Offers are made as by [`Bus::play`], and hits fall as in [`Bus::run`].
+    /// many offers found a full queue. Offers are made as by `play`, and hits fall as in `run`.
     ///
     /// Offers must be in order, hits in strictly rising order, and all must name ports of the bus. Otherwise it
     /// returns the first fault, offers being checked before hits; nothing has run, and `rec` and all ports are
