@@ -1,11 +1,11 @@
-//! A bus: offers and hits in a run.
+//! A bus with offers and hits.
 use can_bus::{Bus, BusFault, Hit, Offer};
 use can_frame::Level;
 use can_node::PackedNode;
 
-/// Runs these ports on one wire for as many bit times as `levels` is long, which has the recorded ones then: the ports
-/// as they are behind it. It is refused where they are none or more than 64, where an offer is earlier than the one
-/// before it or a hit not above the one before it, and where one of them names no port.
+/// Runs these ports on one bus, one bit time for each place of `levels`, records the levels there, and returns the
+/// ports. It is refused if there are no ports or more than 64, if an offer is earlier than the one before it, if a
+/// hit is not above the one before it, or if one of them names no port.
 pub fn played(
     ports: Vec<PackedNode>,
     offers: &[Offer],

@@ -1,17 +1,17 @@
-//! Five small callers of the libraries, to be copied from. Their contracts speak in the words of the crates that they
+//! Five small callers of the libraries, to copy from. Their contracts use the definitions of the crates that they
 //! call, and are proved from those crates' contracts alone. (docs/CALLING.md)
 //!
 //!     $ callers < examples/trace.txt
 //!     frame: 53 bit times
 //!     ..
 //!
-//! | File | What it does | Over |
+//! | File | What it does | Calls |
 //! |---|---|---|
-//! | `frame.rt` | tells how long a frame keeps the bus | can_frame, can_wire |
+//! | `frame.rt` | returns how long a frame keeps the bus | can_frame, can_wire |
 //! | `stream.rt` | finds the frames of a trace | can_stream, can_texts |
-//! | `port.rt` | has two ports share a wire | can_node |
-//! | `bus.rt` | runs a bus that is disturbed | can_bus |
-//! | `plan.rt` | tells how late a message's frames can be | can_longest, can_plan |
+//! | `port.rt` | runs two ports on a bus, bit time by bit time | can_node |
+//! | `bus.rt` | runs a bus with offers and hits | can_bus |
+//! | `plan.rt` | returns the worst-case response time of a message | can_longest, can_plan |
 #![tactic(auto)]
 
 mod bus;
@@ -45,7 +45,7 @@ fn main(rt: HostRuntime) -> io::Result<()> {
     plan_network(&rt)
 }
 
-/// Tells what is found in the trace that is read.
+/// Prints the frames of the trace on standard input.
 fn find_frames(rt: &HostRuntime) -> io::Result<()> {
     let alloc = rt.alloc();
     let trace = read_whole(alloc, &mut FromRead::new(rt.stdin()));
@@ -55,7 +55,7 @@ fn find_frames(rt: &HostRuntime) -> io::Result<()> {
     }
 }
 
-/// Has a port send the frame to another.
+/// One port sends the frame to another.
 fn share_wire(rt: &HostRuntime, frame: Frame) -> io::Result<()> {
     let mut sender = PackedNode::new(rt.alloc(), 1, 1)?;
     let mut receiver = PackedNode::new(rt.alloc(), 1, 1)?;
@@ -66,7 +66,7 @@ fn share_wire(rt: &HostRuntime, frame: Frame) -> io::Result<()> {
     }
 }
 
-/// Has a bus send the frame once more, as its first attempt is hit.
+/// A bus sends the frame again, because its first attempt is hit.
 fn run_bus(rt: &HostRuntime, frame: Frame) -> io::Result<()> {
     let offers = [Offer {
         time: 0,
@@ -97,7 +97,7 @@ fn run_bus(rt: &HostRuntime, frame: Frame) -> io::Result<()> {
     }
 }
 
-/// Tells how late the frames of three messages can be, where nothing is hit.
+/// Prints the worst-case response times of three messages without hits.
 fn plan_network(rt: &HostRuntime) -> io::Result<()> {
     let wires = LongestWires::new(rt.alloc())?;
     let mut messages = Vec::new(rt.alloc());

@@ -1,4 +1,4 @@
-//! A plan: how late the frames of a message can be.
+//! The worst-case response time of a message.
 ghost use Rattle.std.specs.Prelude.{◌≡◌, ◌<◌, IfSome, Some, false, slice_get};
 ghost use Rattle.can_plan.specs.declared.message.Message.{Message as Sent};
 ghost use Rattle.can_plan.specs.Ends.{EndAlways};
@@ -9,10 +9,10 @@ use can_frame::{Frame, Id};
 use can_longest::LongestWires;
 use can_plan::{HitRate, Message, longest_busy, response_bound};
 
-/// Up to which number of bit times a bound is looked for.
+/// Bounds are searched with numbers up to this limit.
 const LIMIT: u32 = 1_000_000;
 
-/// A message of data frames with this identifier and DLC, released once a period, and offered as they are released.
+/// A message of data frames with this identifier and DLC, released once a period, and offered when they are released.
 pub fn message(wires: &LongestWires, id: Id, dlc: u8, period: u32) -> Message
     requires { dlc < 16 }
     ensures { IsLongestBusy id false dlc result.longest }
@@ -25,8 +25,8 @@ pub fn message(wires: &LongestWires, id: Id, dlc: u8, period: u32) -> Message
     }
 }
 
-/// How many bit times after its release a frame of the message at this place has passed at the latest, if the analysis
-/// gives a bound. The messages stand in the order of arbitration.
+/// The bound on the time from the release of a frame of the message at this place to the end of its end of frame, if
+/// the analysis gives one. The messages are in priority order.
 pub fn latest_end(messages: &[Message], place: usize, rate: &HitRate) -> Option<u64>
     ensures { (message : Sent) → slice_get messages.now place ≡ Some message → IsMessageSet messages.now →
         IfSome result (EndAlways (most_hits rate.now) messages.now message) }

@@ -1,10 +1,10 @@
-//! A port: two of them on a wire, bit time by bit time.
+//! Two ports on one bus, bit time by bit time.
 use can_bus::wired;
 use can_mac::Event;
 use can_node::{PackedNode, Port};
 
-/// Runs two ports on a wire until the second has received a frame, for so many bit times at most: in which bit time it
-/// has, counted from 0. The frame is the last in its log.
+/// Runs two ports on one bus until the second has received a frame, for at most `bits` bit times. Returns the bit
+/// time of the reception, counted from 0. The frame is the last in the log.
 pub fn received_within(
     bits: u32,
     sender: &mut PackedNode,

@@ -1,4 +1,4 @@
-//! A stream: what is found in a trace.
+//! The frames of a trace.
 ghost use Rattle.std.specs.Prelude.{IfOk};
 ghost use Rattle.can_texts.specs.Decoded.{DecodesAll};
 
@@ -6,8 +6,8 @@ use can_stream::{FromRead, ToWrite, TraceFault};
 use can_texts::decode_stream;
 use std::alloc::Global;
 
-/// The lines of the frames and faults in a trace, `0` and `1` for its levels. A trace in a file, or one that still
-/// comes, is read the same way: any `Read` of std can be wrapped, and any `Write`.
+/// The lines that report the frames and faults of a trace of `0` and `1`. A trace in a file, or one that is still
+/// being written, is read the same way: any `Read` of std can be wrapped, and any `Write`.
 pub fn found_in(alloc: Global, trace: &[u8]) -> Result<Vec<u8>, TraceFault>
     ensures { IfOk result (λ lines. DecodesAll trace.now lines.items) }
 {

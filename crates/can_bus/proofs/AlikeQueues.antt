@@ -1,4 +1,4 @@
--- Which offers are refused, where two lists of ports have the same queues but at one port, which has room.
+-- Which offers are refused, if two lists of ports have the same queues except at one port, which has space.
 use Rattle.std.specs.Prelude.{if◌then◌else◌, nat_le, nat_lt}
 use Rattle.std.proofs.Common.{◌≡◌, ◌≢◌, ℕ, zero, suc, ◌+◌, ◌<◌, ◌==◌, Bool, true, false, List, [], ◌∷◌, ◌++◌, length, refl, sym, ap, subst, ◌∙◌, arith, inl, inr}
 use Rattle.std.proofs.lemmas.Bool.{cases_Bool, cases_eq, cond-false, cond-true, eq-eqb, ne_eqb}
@@ -49,7 +49,7 @@ module _ (s : ℕ) where
       ap (λ l. nat_le p.queue_room (length l)) same.queue ∙ ap (λ r. nat_le r (length q.queue)) same.room
   full-alike node k (suc j) (p ∷ ps) (q ∷ qs) at other alike = full-alike node (k + 1) j ps qs (omega (arith, at)) other alike.1
 
-  -- at port s there is room
+  -- at port s there is space
   same-full : (node : ℕ) (ps qs : List PortState) → (node ≡ s → HasRoom s 1 0 ps) → (node ≡ s → HasRoom s 1 0 qs) → AlikeBut s 0 ps qs → is_full node ps ≡ is_full node qs
   same-full node ps qs fits_ps fits_qs alike = elim (cases_eq node s) [
     | inl own ↦ not-full s node 0 ps (omega (arith, own)) (fits_ps own) ∙ sym (not-full s node 0 qs (omega (arith, own)) (fits_qs own))

@@ -95,7 +95,7 @@ module _ (q : PortState) (x : Level) (apart : Apart x q.mac) where
       let same = unsent-queue event (apart.unsent (waiting q.queue)) (at_mac after q) in
       record { queue = ap (λ (p : PortState). p.queue) here ∙ same.queue; room = ap (λ (p : PortState). p.queue_room) here ∙ same.room }
 
-  -- what is offered before the level may as well be offered behind it
+  -- what is offered before the level may as well be offered after it
   pub apart-offered : (g : Parts) → port_step (with_offer g q) x ≡ with_offer g (port_step q x)
   apart-offered g =
       let more = port_offered g q in
@@ -197,7 +197,7 @@ module _ (f : Parts) (is : IsFrame f) (p : PortState) (valid : IsPort p) (aside 
 
 -- ---- out of step
 
--- so many recessive levels were the last
+-- this many recessive levels were the last
 record Out (rest : ℕ) (q : PortState) : Type 0 where
   phase : MacPhase
   overloads : Overloads
@@ -275,7 +275,7 @@ module _ (f : Parts) (is : IsFrame f) (p : PortState) (aside : IsOutOfStep p.mac
   unmoved : trail 0 ≡ p
   unmoved = run-none p (with_intermission f)
 
-  -- behind so many of its levels
+  -- after this many of its levels
   outs : (o : ℕ) → suc o < length (with_intermission f) → Out (stood (suc o)) (trail (suc o))
   outs zero within =
       subst (Out (stood 1)) (sym (port_run-taken (with_intermission f) p 0 (omega (arith, within)) ∙ ap (λ q. port_step q (level_at (with_intermission f) 0)) unmoved))

@@ -1,4 +1,4 @@
--- Where all frames are offered at time 0 the schedule is that of a quiet bus: its frames ascend, and its track is their line.
+-- If all frames are offered at time 0 the schedule is that of a quiet bus: its frames ascend, and its track is their line.
 use Rattle.std.specs.Prelude.{slice_index_or}
 use Rattle.std.proofs.Common.{◌≡◌, ℕ, ◌+◌, List, [], subst, sym, ◌∙◌, ap, arith}
 use Rattle.can_frame.specs.declared.level.Level.TheVariants.{Recessive}
@@ -15,7 +15,7 @@ use Rattle.can_bus.proofs.RepairedCalls.{no-windows}
 use Rattle.can_bus.proofs.RepairedLevels.{unhit-line}
 
 module _ (offers : List TimedParts) (different : AreDifferent (frames_of offers)) (all : AreAtOnce offers) where
-  -- the schedule is what is planned for the ascending list, where nothing is hit
+  -- the schedule is what is planned for the ascending list, if nothing is hit
   planned : Plan [] 0 0 (ascending (frames_of offers)) (unhit (schedule offers))
   planned =
       let none = no-windows (ascending (frames_of offers)) in

@@ -47,7 +47,7 @@ pub counted-on : (h : ℕ) (cause : Cause) (c : ConfineParts) → IsWithin h c �
 counted-on h cause c within = cond-false (is_bus_off c) c (changed cause c) (on-bus h c within)
 
 -- what can_fault counts, at an error active port, is what the tally says of a frame that is sent, of one that is received, and of an error
--- at its sender and at a receiver
+-- at its transmitter and at a receiver
 module _ (h : ℕ) (c : ConfineParts) (within : IsWithin h c) where
   tally-by : (cause : Cause) (t : Tally) → tally_of (changed cause c) ≡ t → tally_of (counted cause c) ≡ t
   tally-by cause t same = ap tally_of (counted-on h cause c within) ∙ same
@@ -74,7 +74,7 @@ pub holds-part : (f : Parts) (p : PortState) (part : TakesPart f p) → holds p.
 holds-part f p (inl sends) = holds-own f p.queue (sends-has f p sends)
 holds-part f p (inr receives) = holds-none f p.queue (others-of f p.queue (waiting p.queue) refl receives.other)
 
--- behind the ACK slot a receiver has counted a reception
+-- after the ACK slot a receiver has counted a reception
 pub slot-tally : (h : ℕ) (f : Parts) (o : ℕ) (c : ConfineParts) → IsWithin h c →
     tally_of (counters_after Receiver c (behind_part f o)) ≡ (if nat_lt (slot_place f) o then after_reception (tally_of c) else tally_of c)
 slot-tally h f o c within = elim (cases_lt (slot_place f) o) [

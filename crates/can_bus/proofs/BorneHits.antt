@@ -1,4 +1,4 @@
--- Hits that leave every port error active: fifteen at most, or one in nine attempts of one sender.
+-- Hits that leave every port error active: fifteen at most, or one in nine attempts of one transmitter.
 use Rattle.std.specs.Prelude.{slice_get, nat_lt, if◌then◌else◌}
 use Rattle.std.proofs.Common.{◌≡◌, ℕ, zero, suc, ◌+◌, ◌-◌, ◌*◌, ◌<◌, ◌≤◌, Bool, true, false, Option, Some, None, List, [], ◌∷◌, length, take, refl, sym, ap, subst, ◌∙◌, arith, inl, inr}
 use Rattle.std.proofs.lemmas.Bool.{cases_lt}
@@ -20,7 +20,7 @@ use Rattle.can_bus.proofs.RepairPlans.{few-made, frames_left, hit-cases, struck-
 abbrev Few : ℕ → Tally → Type 0
 Few n t = (t.tec ≤ 8 * n) × (t.rec ≤ n)
 
--- what a receiver has counted where it is hit, the reception before or not
+-- what a receiver has counted when it is hit, with the reception before or without it
 fewer-or-same : (b : Bool) (t : Tally) → (if b then after_reception t else t).rec ≤ t.rec
 fewer-or-same true t = omega arith
 fewer-or-same false t = omega arith
@@ -69,7 +69,7 @@ quiet-tally queue frames =
     let few : Few 0 (tally queue frames []) = subst (λ some. Few 0 (course_tally queue some no_errors)) (take_all (length course) course (omega arith)) (repaired-few frames [] queue (length course)) in
     (omega (arith, few.0), omega (arith, few.1))
 
--- ---- One hit in nine attempts of one sender.
+-- ---- One hit in nine attempts of one transmitter.
 
 -- how many attempts without a hit come next, at least
 abbrev allowed : Option ℕ → ℕ → ℕ

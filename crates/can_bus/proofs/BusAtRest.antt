@@ -20,7 +20,7 @@ use Rattle.can_bus.specs.Walks.{AreBelow, HitsRise, IsPassed, IsCall, in_next, i
 use Rattle.can_bus.proofs.CursorLemmas.{reach_none, reach_past, wire_found, attempt_found, view_found}
 use Rattle.can_bus.proofs.StepLemmas.{call_of, same_call, at_next, view_next, view_later, within_next}
 
--- ---- what lies behind a bit time lies behind the later ones
+-- ---- what is before a bit time is before the later ones
 
 pub at_after : (n : ℕ) (hits : List Hit) (place t : ℕ) → AreBelow hits place (At t) → AreBelow hits place (At (t + n))
 at_after zero hits place t below = subst (λ k. AreBelow hits place (At k)) (let e : t ≡ t + 0 = omega arith in e) below
@@ -37,7 +37,7 @@ view_at zero hits place t below = below
 view_at (suc node) hits place t below =
     subst (λ k. AreBelow hits place (View t k)) (let e : node + 1 ≡ suc node = omega arith in e) (view_next hits place t node (view_at node hits place t below))
 
--- an attempt that is so many bit times older
+-- an attempt that is this many bit times older
 pub aged_more : (n : ℕ) (latest : Option Attempt) → aged (aged_by n latest) ≡ aged_by (n + 1) latest
 aged_more n None = refl
 aged_more n (Some a) = ap (λ k. Some (let b : Attempt = record { number = a.number; offset = k } in b)) (let e : (a.offset + n) + 1 ≡ a.offset + (n + 1) = omega arith in e)
@@ -60,7 +60,7 @@ pub passed_after : (n : ℕ) (latest : Option Attempt) (time : ℕ) → IsPassed
 passed_after n None time passed = tt
 passed_after n (Some a) time passed = let h : a.number + (a.offset + n) < time + n = omega arith in h
 
--- ---- no hit falls where the next one lies behind
+-- ---- no hit falls if the next one is later
 
 -- the next hit, if there is one, lies above this one
 abbrev pub LiesAbove : Option Hit → Hit → Type 0
@@ -77,7 +77,7 @@ missed hits place q None rising below at above = sym (reach_none hits place q be
 missed hits place q (Some h) rising below at above =
     sym (reach_past hits place q h rising below (slice_get_within hits place h at) (subst (λ x. is_above x q ≡ true) (sym (get_or_from_slice_get hits place h h at)) above))
 
--- before so many bit times have passed the next hit lies above all that could fall
+-- before this many bit times have passed the next hit is above all that could fall
 at_far : (time n : ℕ) (next : Option Hit) → n < until_at time next → LiesAbove next (At (time + n))
 at_far time n None h = tt
 at_far time n (Some (At t)) h = lt-ltb (time + n) t (omega arith)
@@ -137,7 +137,7 @@ view_undisturbed hits call n node rising is h =
     ∙ missed hits call.view.place (View (call.time + n) node) (slice_get hits call.view.place) rising
     (view_at node hits call.view.place (call.time + n) (view_after n hits call.view.place call.time is.view)) refl (view_far call.time n node (slice_get hits call.view.place) h)
 
--- no port alone is hit where the next hit is a later one of that kind
+-- no port alone is hit if the next hit is a later one of that kind
 pub view_unhit : (hits : List Hit) (place time node : ℕ) → HitsRise hits → AreBelow hits place (View time 0) → 0 < until_view time (slice_get hits place) → list_any (hits_view time node) hits ≡ false
 view_unhit hits place time node rising below ahead =
     let now : time + 0 ≡ time = omega arith in
@@ -182,7 +182,7 @@ step_rests hits c h wire view =
     full : rest_after c.bus.rest Recessive ≡ c.bus.rest
     full = ap (λ r. min (r + 1) idle_row) h.rest ∙ sym h.rest
 
--- no hit falls in so many bit times, in which no attempt begins
+-- no hit falls in this many bit times, in which no attempt begins
 pub record IsFree (hits : List Hit) (c : CallState) (n : ℕ) : Type 0 where
   pub wire : (k : ℕ) → k < n → list_any (hits_wire (c.time + k) (aged_by (k + 1) c.latest)) hits ≡ false
   pub view : (k node : ℕ) → k < n → list_any (hits_view (c.time + k) node) hits ≡ false
@@ -191,7 +191,7 @@ pub rested_none : (hits : List Hit) (c : CallState) → bus_after hits 0 c ≡ r
 unfolding bus_after
 rested_none hits c = same_call {p = c.bus.ports} {rest = c.bus.rest} refl refl (let e : c.time ≡ c.time + 0 = omega arith in e) (aged_none c.latest)
 
--- so many bit times later nothing but the time has changed
+-- this many bit times later nothing but the time has changed
 pub rests_on : (hits : List Hit) (c : CallState) (n k : ℕ) → IsResting c.bus → IsFree hits c n → k ≤ n → bus_after hits k c ≡ rested k c
 unfolding bus_after
 rests_on hits c n zero h free within = rested_none hits c
@@ -207,7 +207,7 @@ rest_recorded hits c n k h free within =
     ap (recorded hits) (rests_on hits c n k h free (omega arith))
     ∙ level_rests hits (rested k c) h (ap (λ l. list_any (hits_wire (c.time + k) l) hits) (aged_more k c.latest) ∙ free.wire k within)
 
--- a call goes on behind them
+-- a call continues after them
 pub call_rested : (hits : List Hit) (call : Call) (n : ℕ) (later : Call) → IsCall hits call → later.time ≡ call.time + n → later.latest ≡ aged_by n call.latest →
     later.at ≡ call.at → later.within ≡ call.within → later.view ≡ call.view → IsCall hits later
 call_rested hits call n later is time latest at within view = record {

@@ -1,4 +1,4 @@
--- A call with offers and hits, where it has no offers or no hits: it is the run, or what is played.
+-- A call with offers and hits, if it has no offers or no hits: it is the run, or what is played.
 use Rattle.std.proofs.Common.{◌≡◌, ℕ, suc, Some, None, Ok, Err, List, [], length, map, sym, ap, subst, ◌∙◌}
 use Rattle.std.proofs.lemmas.List.{length-map}
 use Rattle.std.specs.Prelude.{◌↔◌, IfOk, IsOk, OnOk, Result}
@@ -14,7 +14,7 @@ use Rattle.can_bus.proofs.HitRuns.{all-see, sees}
 pub no-hits : (ports : ℕ) → AreTaken ports []
 no-hits ports place hit at = absurd (let h : None ≡ Some hit = at in cc)
 
--- ---- what holds of an answer
+-- ---- what holds of a result
 
 pub offers-taken : {X T E : Type 0} (state : X → PortState) (xs : List X) (offers : List Offer) (r : Result T E) → (IsOk r ↔ (AreOffered (length xs) offers × AreTaken (length xs) [])) →
     AreOffered (length (map state xs)) offers → IsOk r

@@ -1,4 +1,5 @@
--- Calls that follow one another: no bit time changes the rooms of a port; and what is asked of the next call, behind the last attempt of the one before.
+-- Calls that follow one another: no bit time changes the capacities of a port; and what is required of the next call, after the last
+-- attempt of the one before.
 use Rattle.std.specs.Prelude.{slice_get, option_map}
 use Rattle.std.proofs.Common.{◌≡◌, ℕ, zero, suc, ◌+◌, Some, List, [], ◌∷◌, ◌++◌, length, map, take, get_or, refl, sym, ap, subst, ◌∙◌, arith}
 use Rattle.std.proofs.lemmas.Bool.{cond_both}

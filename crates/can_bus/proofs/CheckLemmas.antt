@@ -20,7 +20,7 @@ get-take n k xs x e =
     (less, slice_get-get_or xs k x (omega arith) ∙ ap Some here)
 
 module _ {A : Type 0} (items : List A) (Holds : ℕ → A → Type 0) where
-  -- what holds of each item before this place, and where it stands
+  -- what holds of each item before this place, and its own place
   abbrev pub HoldsBefore : ℕ → Type 0
   HoldsBefore place = (n : ℕ) (item : A) → n < place → slice_get items n ≡ Some item → Holds n item
 
@@ -39,7 +39,7 @@ module _ {A : Type 0} (items : List A) (Holds : ℕ → A → Type 0) where
       ]
 
 module _ {A : Type 0} (follows : A → A → Bool) where
-  -- where what may stand behind an item may stand behind all before it, each may stand behind all before it
+  -- if what may follow an item may follow all before it, each may follow all before it
   pub follows-each : ((a b c : A) → follows a b ≡ true → follows b c ≡ true → follows a c ≡ true) → (items : List A) →
       ((place : ℕ) (item : A) → slice_get items place ≡ Some item → FollowsLast follows items place item) →
       (m n : ℕ) (a b : A) → m < n → slice_get items m ≡ Some a → slice_get items n ≡ Some b → follows b a ≡ true

@@ -1,4 +1,4 @@
--- Which frames a list has, and what holds of each port; and which frame waits, where every other comes behind it.
+-- Which frames a list has, and what holds of each port; and which frame is pending, if every other has lower priority.
 use Rattle.std.proofs.Common.{◌≡◌, ◌⊎◌, Option, Some, None, List, [], ◌∷◌, refl, ap, subst, inl, inr}
 use Rattle.can_frame.specs.Parts.{Parts}
 use Rattle.can_node.specs.Ports.{waiting}

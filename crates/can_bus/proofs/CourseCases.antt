@@ -1,4 +1,4 @@
--- The course where nothing is hit, and where all frames are offered at once.
+-- The course without hits, and with all frames offered at once.
 use Rattle.std.proofs.Common.{◌≡◌, List, [], sym, ◌∙◌}
 use Rattle.can_hit.specs.declared.hit.Hit.{Hit}
 use Rattle.can_bus.specs.Course.{IsCourse, Transmission}

@@ -1,4 +1,4 @@
--- How long an offered frame waits at most, where frames are disturbed meanwhile.
+-- How long an offered frame waits at most, if frames are disturbed in the meantime.
 use Rattle.std.specs.Prelude.{filter, nat_lt, slice_get, take, ◌&&◌}
 use Rattle.std.proofs.Common.{◌≡◌, ℕ, zero, suc, ◌+◌, ◌<◌, ◌≤◌, Bool, true, false, cond, Option, Some, None, List, [], ◌∷◌, ◌++◌, length, map, refl, sym, ◌∙◌, ap, subst, inl, inr, arith}
 use Rattle.std.specs.List.{sum_by}
@@ -74,7 +74,7 @@ pub length-weigh : (timed : List TimedParts) → sum_by (λ (x : TimedParts). 1)
 length-weigh [] = refl
 length-weigh (x ∷ timed) = omega (arith, sum_by-cons (λ (y : TimedParts). 1) x timed, length-weigh timed)
 
--- an attempt that starts no earlier than a time, and those behind it
+-- an attempt that starts no earlier than a time, and those after it
 none-earlier : {hits : List Hit} {number free : ℕ} {left : List TimedParts} {course : List Transmission} → IsCourse hits number free left course → (a : Transmission) → a.time ≤ free → (from : ℕ) → from ≤ a.time →
     (z : Transmission) → IsMade (a ∷ course) z → from ≤ z.time
 none-earlier rest a early from within z (inl e) = let same : a.time ≡ z.time = ap (λ (w : Transmission). w.time) e in omega (arith, within, same)
@@ -100,7 +100,7 @@ module _ (weight : Parts → ℕ) where
         omega (arith, behind, here, stays)
   ]
 
-  -- what the attempts weigh that send a frame meanwhile
+  -- the weight of the attempts that send a frame in between
   abbrev sent_weight : List Transmission → TimedParts → Transmission → ℕ
   sent_weight course x s = sum_by (λ (z : Transmission). weight z.frame) (sent_attempts (attempts_between x.time s.time course))
 
@@ -149,7 +149,7 @@ module _ (weight : Parts → ℕ) where
     never-more : (y : TimedParts) (more : List TimedParts) → of_field f left ≡ y ∷ more → weigh weight (ahead_of x.frame s.time (without_offer f left)) ≤ weigh weight (ahead_of x.frame s.time left)
     never-more y more first = omega (arith, weigh-first tested f left y more first)
 
-    -- one of its own field takes away one that stands before it
+    -- one of its own field takes away one that is before it
     own-less : (y : TimedParts) (more : List TimedParts) → of_field f before ≡ y ∷ more → y.frame ≡ f → same_field x.frame f ≡ true →
         weigh weight (of_field x.frame before) ≡ weight f + weigh weight (of_field x.frame (without_offer f before))
     own-less y more first frame same =
@@ -211,7 +211,7 @@ module _ (weight : Parts → ℕ) where
   abbrev going_weight : List TimedParts → List TimedParts → List Transmission → TimedParts → Transmission → ℕ
   going_weight left before course x s = ahead_weight (left_behind left (attempts_between 0 x.time course)) (left_behind before (attempts_between 0 x.time course)) x s
 
-  -- where no attempt has been made by then
+  -- if no attempt has been made by then
   late-going : (left before : List TimedParts) (course : List Transmission) (x : TimedParts) (s : Transmission) → ((z : Transmission) → IsMade course z → x.time ≤ z.time) →
       sent_weight course x s ≤ ahead_weight left before x s → sent_weight course x s ≤ going_weight left before course x s
   late-going left before course x s from less =
@@ -274,7 +274,7 @@ course-costs (attempted number free time f hit left course is told window rest) 
     (hit-cost f hit (subst (λ (z : Transmission). IsFrame z.frame) (sym here) framed) window)
 course-costs (attempted number free time f hit left course is told window rest) s (inr made) framed = course-costs rest s made framed
 
--- ---- the wait, told from a course
+-- ---- the wait, from a course
 
 module _ (hits : List Hit) (offers : List TimedParts) (course : List Transmission) (is : IsCourse hits 0 0 offers course) (rise : AreInTime offers)
     (place : ℕ) (offer : TimedParts) (s : Transmission) (by : IsSentBy offers course place offer s) where

@@ -29,7 +29,7 @@ next-time free left t u f g one other = omega (arith, no-later free left t u f g
 
 -- ---- there is one
 
--- where offers are left one of them waits at the earliest time
+-- if offers are left one of them waits at the earliest time
 pub frame-there : (free : ℕ) (x : TimedParts) (others : List TimedParts) → (f : Parts) × (waiting (offered_by (max free (earliest x others)) (x ∷ others)) ≡ Some f)
 frame-there free x others =
     let time = max free (earliest x others) in

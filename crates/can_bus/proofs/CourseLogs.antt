@@ -32,7 +32,7 @@ use Rattle.can_bus.proofs.Repairs.{broken_levels, broken-tally, Stays, part-stay
 use Rattle.can_bus.proofs.HitKept.{Kept, along-part, hit-kept}
 use Rattle.can_bus.proofs.CoursePorts.{CoursePort, IsCoursePort, rested, rested-turned, turned, HasPart, takes-part, behind_frame, behind_hit, hit_port, hit-turned}
 
--- the entries of these attempts at this port, behind those that it has
+-- the entries of these attempts at this port, after those that it has
 abbrev pub log_of : List Transmission → CoursePort → List Entry
 log_of course o = o.machine.port.log ++ marked o.mine (frames_sent course)
 
@@ -54,7 +54,7 @@ ended-none : (t : ℕ) (course : List Transmission) → ((s : Transmission) → 
 ended-none t [] late = refl
 ended-none t (s ∷ course) late = ended-skip t s course (omega (arith, late s (inl refl))) ∙ ended-none t course (λ x made. late x (inr made))
 
--- where none has, the log is at least what it was
+-- if none has, the log is at least what it was
 has-none : (t : ℕ) (course : List Transmission) (o : CoursePort) (log : List Entry) → ended_by t course ≡ [] → IsPrefixOf o.machine.port.log log → IsPrefixOf (log_of (ended_by t course) o) log
 has-none t course o log none is =
     subst (λ (l : List Entry). IsPrefixOf l log) (sym (ap (λ (some : List Transmission). log_of some o) none ∙ append-nil o.machine.port.log)) is
@@ -65,7 +65,7 @@ pub record IsDone (p : PortState) : Type 0 where
   pub empty : p.queue ≡ []
   pub unasked : p.mac.overloads.pending ≡ 0
 
--- what becomes of the port by this time, where these attempts are still to come
+-- what becomes of the port by this time, with these attempts still to come
 pub record Becomes (most : ℕ) (course : List Transmission) (until : ℕ) (o : CoursePort) (p : PortState) : Type 0 where
   pub begins : IsPrefixOf p.log (log_of course o)
   pub has : IsPrefixOf (log_of (ended_by until course) o) p.log
@@ -77,7 +77,7 @@ pub record Becomes (most : ℕ) (course : List Transmission) (until : ℕ) (o : 
 
 -- ---- at rest
 
--- where no attempt has come, the port is as it was
+-- if no attempt has come, the port is as it was
 pub becomes-now : (most : ℕ) (course : List Transmission) (now : ℕ) (o : CoursePort) → IsWithin most o.machine.port.mac.counters → IsDone o.machine.port →
     ((s : Transmission) → IsMade course s → now < s.time) → Becomes most course now o o.machine.port
 becomes-now most course now o within done late = record {
@@ -112,7 +112,7 @@ pub record Leaves (hit : Option ℕ) (f : Parts) (entries : List Entry) (o : Cou
   pub tally : tally_of left.mac.counters ≡ tallied (holds o.mine f) f hit (counts_of o)
   pub missed : left.missed ≡ o.machine.port.missed
 
--- behind it, where these entries are those of the attempt
+-- after it, if these entries are those of the attempt
 pub becomes-behind : (most : ℕ) (s : Transmission) (course : List Transmission) (entries : List Entry) (o next : CoursePort) → next.mine ≡ o.mine → Leaves s.hit s.frame entries o next.machine.port →
     ((rest : List Transmission) → marked o.mine (frames_sent (s ∷ rest)) ≡ entries ++ marked o.mine (frames_sent rest)) →
     (until : ℕ) → s.time + lasting s.frame s.hit ≤ until → (q : PortState) → Becomes most course until next q → Becomes most (s ∷ course) until o q
@@ -229,7 +229,7 @@ module _ (h now n : ℕ) (f : Parts) (o : CoursePort) (is : IsCoursePort h now n
         no-more [] late over t = refl
         no-more (s ∷ rest) late over t = absurd (omega (arith, less, late s (inl refl), over s (inr (inl refl))))
 
-  -- behind it
+  -- after it
   pub frame-leaves : HasPart f o → Leaves None f (entry ∷ []) o (behind_frame f o).machine.port
   frame-leaves (inl sends) = subst (Leaves None f (entry ∷ []) o) (ap (λ (g : GainingPort). g.port) (sym (gaining_run-sent f o.machine sends.0))) (record {
     log = ap (λ s. p.log ++ entry_of f s ∷ []) (sym sends.1);
@@ -283,7 +283,7 @@ module _ (f : Parts) (framed : IsFrame f) (offset : ℕ) (hit : IsHit f offset) 
         done = λ over. absurd (omega (arith, less, over here (inl refl)));
       }
 
-  -- behind it
+  -- after it
   pub hit-leaves : Leaves (Some offset) f [] o (behind_hit f framed offset hit o).machine.port
   hit-leaves =
       let left : PortState = hit_port f framed offset hit q in

@@ -1,4 +1,5 @@
--- Where all frames wait as a call begins, its attempts are a course: each sends the frame that an ascending list tells, where the one before has ended.
+-- If all frames wait at the start of a call, its attempts are a course: each sends the next frame of an ascending list when the one
+-- before has ended.
 use Rattle.std.specs.Prelude.{slice_index_or}
 use Rattle.std.proofs.Common.{◌≡◌, ℕ, suc, ◌+◌, ◌-◌, ◌≤◌, Some, None, List, [], ◌∷◌, ◌++◌, length, refl, sym, ap, subst, ◌∙◌, arith, inl, inr}
 use Rattle.std.proofs.lemmas.Bool.{cases_lt}
@@ -91,12 +92,12 @@ plan-course (tried number time f None frames course told window rest) left risin
 plan-course (tried number time f (Some o) frames course told window rest) left rising are =
     attempted number time time f (Some o) left course (first-next f frames left rising are time) told window (plan-course rest left rising are)
 
--- where all frames are offered at once
+-- if all frames are offered at once
 pub course-at_once : (hits : List Hit) (offers : List TimedParts) (frames : List Parts) → AreDifferent (frames_of offers) → AreAtOnce offers → IsAscending (frames_of offers) frames →
     HitInWindows (repaired_course frames hits) → IsCourse hits 0 0 offers (repaired_course frames hits)
 course-at_once hits offers frames different at_once is windows = plan-course (plan hits frames windows) offers is.rising (left-ascending offers frames different at_once is)
 
--- ---- what is told from it
+-- ---- what follows from it
 
 pub plan-frames : {hits : List Hit} {number time : ℕ} {frames : List Parts} {course : List Transmission} → Plan hits number time frames course → frames_sent course ≡ frames
 plan-frames (done number time) = refl

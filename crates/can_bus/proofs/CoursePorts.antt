@@ -31,8 +31,8 @@ pub record CoursePort : Type 0 where
   pub own : List TimedParts
   pub mine : List Parts
 
--- As a bit time begins: the port is calm, what is left is of its own fields and in the order of time, and its queue is, and will be, what is offered
--- by the time, where nothing is sent meanwhile.
+-- At the start of a bit time: the port is calm, what is left is of its own fields and in the order of time, and its queue is, and will
+-- be, what is offered by the time, if nothing is sent in the meantime.
 pub record IsCoursePort (h now entries : ℕ) (o : CoursePort) : Type 0 where
   pub calm : IsCalm h entries o.machine.port
   pub frames : AreFrames (frames_of o.own)
@@ -127,7 +127,7 @@ module _ (f : Parts) (is : IsFrame f) (offset : ℕ) (hit : IsHit f offset) wher
   abbrev pub behind_hit : CoursePort → CoursePort
   behind_hit o = record { machine = gaining_run o.machine (seen_of (broken_levels f is offset hit)); own = o.own; mine = o.mine }
 
-  -- the port as the hit leaves it, where nothing arrives
+  -- the port as the hit leaves it, if nothing arrives
   abbrev pub hit_port : PortState → PortState
   hit_port p = port_run p (seen_of (broken_levels f is offset hit))
 

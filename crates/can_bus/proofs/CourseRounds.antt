@@ -43,7 +43,7 @@ ports_now os = ports_of (machines_of os)
 abbrev pub held : List CoursePort → List TimedParts
 held os = flat_map (λ (o : CoursePort). o.own) os
 
--- a field that one port has, none behind it has
+-- a field of one port belongs to none after it
 abbrev pub Owned : List CoursePort → Type 0
 Owned [] = Unit {0}
 Owned (o ∷ os) = ((f : Parts) → holds o.mine f ≡ true → AllPorts (λ (q : CoursePort). holds q.mine f ≡ false) os) × Owned os
@@ -260,7 +260,7 @@ module _ (h now : ℕ) (left : List TimedParts) (os : List CoursePort) (round : 
       let ready = all-ready h f (length (without_offer f left)) (ports_now os) next-frame (subst (λ n. AllPorts (IsCalm h n) (ports_now os)) left-length calm) in
       the-one h now (length left) f os round.ports round.owned ready next-least next-head.0 next-head.1
 
-  -- behind its frame the others are left
+  -- after its frame the others are left
   pub round-behind : CourseRound h (now + length (with_intermission f)) (without_offer f left) (map (behind_frame f) os)
   round-behind = record {
     ports = all-behind h now (length (without_offer f left)) f os (subst (λ n. AllPorts (IsCoursePort h now n) os) left-length round.ports) (one-parts f os round-sends);
@@ -270,7 +270,7 @@ module _ (h now : ℕ) (left : List TimedParts) (os : List CoursePort) (round : 
         ∙ ap (of_field g) (sym (held-behind h now (length left) f os round.ports round-sends));
   }
 
-  -- behind a hit all are
+  -- after a hit all are
   pub round-broken : (framed : IsFrame f) (offset : ℕ) (hit : IsHit f offset) → AllPorts (Survives f offset) (ports_now os) →
       CourseRound (suc h) (now + length (broken_levels f framed offset hit)) left (map (behind_hit f framed offset hit) os)
   round-broken framed offset hit low = record {

@@ -54,13 +54,13 @@ in_flags : course_of (In 0 30 ∷ []) (at 0 frame_009 ∷ at 40 frame_000 ∷ []
 unfolding course_of waiting lateness stuffed_part unstuffed stuffed crc_of head arbitration_field bits_of frame_len
 in_flags = refl
 
--- the attempt behind is the third
+-- the attempt after it is the third
 third_hit : course_of (In 0 30 ∷ In 2 30 ∷ []) (at 0 frame_009 ∷ at 40 frame_000 ∷ []) ≡
     goes 0 frame_009 (Some 30) ∷ goes 54 frame_000 None ∷ goes 107 frame_009 (Some 30) ∷ goes 161 frame_009 None ∷ []
 unfolding course_of waiting lateness stuffed_part unstuffed stuffed crc_of head arbitration_field bits_of frame_len
 third_hit = refl
 
--- offered one bit time before the restart, in its very bit time, and one behind
+-- offered one bit time before the restart, in its very bit time, and one after it
 before_restart : course_of (In 0 30 ∷ []) (at 0 frame_009 ∷ at 53 frame_000 ∷ []) ≡ overtaken
 unfolding course_of waiting lateness stuffed_part unstuffed stuffed crc_of head arbitration_field bits_of frame_len
 before_restart = refl
@@ -82,7 +82,7 @@ last_place : course_of (In 0 48 ∷ []) (at 0 frame_000 ∷ at 10 frame_001 ∷ 
 unfolding course_of waiting lateness stuffed_part unstuffed stuffed crc_of head arbitration_field bits_of frame_len
 last_place = refl
 
--- the wire of 000 has ended by 104, the fifty levels behind 54
+-- the wire of 000 has ended by 104, fifty levels after 54
 not_yet : frames_sent (ended_by 103 overtaken) ≡ []
 unfolding lateness stuffed_part unstuffed stuffed crc_of head arbitration_field bits_of frame_len
 not_yet = refl
@@ -93,7 +93,7 @@ by_then = refl
 
 -- ---- counters
 
--- the sender of 009 in the course that is overtaken, and the port of 000
+-- the transmitter of 009 in the course that is overtaken, and the port of 000
 overtaken_sender : course_tally (frame_009 ∷ []) overtaken (counts 0 0) ≡ counts 7 0
 unfolding stuffed_part unstuffed stuffed crc_of head arbitration_field bits_of
 overtaken_sender = refl
@@ -118,7 +118,7 @@ second_sender : course_tally (frame_001 ∷ []) second (counts 0 0) ≡ counts 7
 unfolding stuffed_part unstuffed stuffed crc_of head arbitration_field bits_of
 second_sender = refl
 
--- the first call is over at 93; behind it each log goes on, with 000 and then 001, each as sent at its own port
+-- the first call is over at 93; after it each log continues, with 000 and then 001, each as sent at its own port
 abbrev first : List Transmission
 first = goes 0 frame_000 (Some 16) ∷ goes 40 frame_000 None ∷ []
 
@@ -174,7 +174,7 @@ hit_costs : kept_times (hit_attempts (attempts_between 0 107 overtaken)) ≡ 54
 unfolding lateness stuffed_part unstuffed stuffed crc_of head arbitration_field bits_of frame_len
 hit_costs = refl
 
--- of three of one field the last waits for the second alone, where the first has been sent by then
+-- of three of one field the last waits for the second alone, if the first has been sent by then
 second_before : going_before (at 0 frame_001 ∷ at 0 again_001 ∷ at 30 frame_001 ∷ []) (goes 0 frame_001 None ∷ goes 50 again_001 None ∷ goes 109 frame_001 None ∷ []) 2 (at 30 frame_001) 109 ≡ at 0 again_001 ∷ []
 unfolding lateness stuffed_part unstuffed stuffed crc_of head arbitration_field bits_of frame_len
 second_before = refl

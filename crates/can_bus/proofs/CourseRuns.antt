@@ -169,7 +169,7 @@ module _ (hits : List Hit) (most : ℕ) where
   abbrev pub later : ℕ → HitWire GainingPort → HitWire GainingPort
   later n w = hit_run gaining_drives gaining_sees hits n w
 
-  -- as this bit time begins, where these attempts were to come
+  -- at the start of this bit time, with these attempts to come
   pub record Follows (course : List Transmission) (t : ℕ) (os : List CoursePort) (w : HitWire GainingPort) : Type 0 where
     pub level : seen_now w ≡ course_at course t
     pub each : Each (Becomes most course t) os (ports_of w.machines)
@@ -265,7 +265,7 @@ module _ (hits : List Hit) (most : ℕ) where
       rests = λ over. absurd (omega (arith, less, kept, over s (inl refl)));
     }
 
-    -- behind it
+    -- after it
     attempt-behind : (F : CoursePort → CoursePort) → ((o : CoursePort) → (F o).machine ≡ gaining_run o.machine (seen_of levels)) →
         ((until : ℕ) → now + length levels ≤ until → (ports : List PortState) → Each (Becomes most course until) (map F os) ports → Each (Becomes most (s ∷ course) until) os ports) →
         (j : ℕ) → Follows course ((now + length levels) + j) (map F os) (later j (wire_with (map F os) (Some (attempt number counted.last)))) →

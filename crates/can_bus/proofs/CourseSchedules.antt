@@ -1,4 +1,4 @@
--- The schedule: there is one, and what is told of its starts, which are the attempts of a course without hits.
+-- The schedule: there is one, and what holds of its starts, which are the attempts of a course without hits.
 use Rattle.std.specs.Prelude.{max, option_map, slice_get, slice_index_or}
 use Rattle.std.specs.List.Sorted.{IsPermutation}
 use Rattle.std.proofs.Common.{◌≡◌, ℕ, zero, suc, ◌+◌, ◌-◌, ◌<◌, ◌≤◌, Bool, true, false, Option, Some, None, List, [], ◌∷◌, length, replicate, take, refl, sym, ap, subst, ◌∙◌, arith, inl, inr}
@@ -31,7 +31,7 @@ starts-unhit : (starts : List TimedParts) → starts_of (unhit starts) ≡ start
 starts-unhit [] = refl
 starts-unhit (s ∷ starts) = ap (λ l. s ∷ l) (starts-unhit starts)
 
--- where nothing is hit, no attempt that is computed is
+-- without hits no attempt of the computed course is hit
 one-computed : (behind : Parts → List Transmission) (time : ℕ) → ((f : Parts) → unhit (starts_of (behind f)) ≡ behind f) → (w : Option Parts) →
     unhit (starts_of (attempt_of behind time None w)) ≡ attempt_of behind time None w
 one-computed behind time same None = refl
@@ -99,7 +99,7 @@ module _ (offers starts : List TimedParts) (is : IsScheduleOf offers starts) whe
   pub track-wires : (s : TimedParts) → Lists starts s → (k : ℕ) → k < length (wire s.frame) → track_at starts (s.time + k) ≡ slice_index_or (wire s.frame) k Recessive
   track-wires s there k within = line-wire is.scheduled (one_unhit s) (unhit-made starts s there) refl k (slice_index_or (wire s.frame) k Recessive) (slice_get-get_or (wire s.frame) k Recessive within)
 
--- where no wire lasts it is recessive
+-- if no wire is on the bus it is recessive
 level-past : (f : Parts) (k : ℕ) → length (wire f) ≤ k → slice_index_or (with_intermission f) k Recessive ≡ Recessive
 level-past f k past = get_or-append_right (wire f) (replicate 3 Recessive) (length (wire f)) k Recessive refl past ∙ resting 3 (k - length (wire f))
   where

@@ -1,4 +1,4 @@
--- Each offer of a course has one attempt that sends it: as many attempts send a frame of a field as offers have it.
+-- Each offer of a course has one attempt that sends it: a field has the same number of offers and of attempts that send a frame of it.
 use Rattle.std.specs.Prelude.{slice_get, take}
 use Rattle.std.proofs.Common.{◌≡◌, ℕ, suc, ◌<◌, true, false, None, Some, List, ◌∷◌, ◌++◌, length, get_or, refl, sym, ◌∙◌, ap, inl, inr, arith}
 use Rattle.std.proofs.lemmas.Bool.{cases_Bool}

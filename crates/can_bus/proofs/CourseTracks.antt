@@ -42,7 +42,7 @@ module _ (s : Transmission) (course : List Transmission) (t : ℕ) where
   track-on begun lasts =
       cond-true on_wire level (course_at course t) (ap (λ b. b && nat_lt t (s.time + length levels_of)) (le-leb s.time t begun) ∙ lt-ltb t (s.time + length levels_of) lasts)
 
-  -- before it and behind it the others count
+  -- before it and after it the others count
   pub track-before : t < s.time → course_at (s ∷ course) t ≡ course_at course t
   unfolding course_at
   track-before early = cond-false on_wire level (course_at course t) (ap (λ b. b && nat_lt t (s.time + length levels_of)) (lt-leb s.time t early))
@@ -78,14 +78,14 @@ module _ (f : Parts) (offset : ℕ) where
   length-broken is hit =
       sym (length-map (broken_levels f is offset hit) (λ l. l.1)) ∙ ap length (broken-attempt f is offset hit) ∙ length-struck (omega (arith, hit.within, length-wire f))
 
--- an attempt has as many levels as it keeps the bus
+-- an attempt has a level for each bit time for which it keeps the bus
 pub length-attempt : (f : Parts) (hit : Option ℕ) → FallsInWindow f hit → length (attempt_levels f hit) ≡ keeping f hit
 length-attempt f None window = length-busy f
 length-attempt f (Some offset) window = length-struck f offset (omega (arith, window.before_last))
 
 -- ---- what holds of each attempt
 
--- what is left behind it was left before
+-- what is left after it was left before
 pub left-listed : (f : Parts) (hit : Option ℕ) (left : List TimedParts) (x : TimedParts) → Lists (left_by f hit left) x → Lists left x
 left-listed f None left x there = without-listed f left x there
 left-listed f (Some offset) left x there = there
@@ -128,7 +128,7 @@ made-at [] n s at = absurd (let h : None ≡ Some s = at in cc)
 made-at (x ∷ course) zero s at = inl (let h : Some x ≡ Some s = at in cc)
 made-at (x ∷ course) (suc n) s at = inr (made-at course n s at)
 
--- each behind the one before, and what that keeps the bus
+-- each after the one before, and what that keeps the bus
 pub course-rise : {hits : List Hit} {number free : ℕ} {left : List TimedParts} {course : List Transmission} → IsCourse hits number free left course → (m n : ℕ) (s t : Transmission) → m < n →
     slice_get course m ≡ Some s → slice_get course n ≡ Some t → s.time + keeping s.frame s.hit ≤ t.time
 course-rise (over number free) m n s t less a b = absurd (let h : None ≡ Some s = a in cc)
@@ -138,7 +138,7 @@ course-rise (attempted number free time f hit left course is told window rest) z
     subst (λ (z : Transmission). z.time + keeping z.frame z.hit ≤ t.time) (let e : Some first ≡ Some s = a in let same : first ≡ s = cc in same) (course-free rest t (made-at course n t b))
 course-rise (attempted number free time f hit left course is told window rest) (suc m) (suc n) s t less a b = course-rise rest m n s t (omega (arith, less)) a b
 
--- where no two offers have one field, each frame that is offered is sent
+-- if no two offers have one field, each frame that is offered is sent
 pub course-frames : {hits : List Hit} {number free : ℕ} {left : List TimedParts} {course : List Transmission} → IsCourse hits number free left course → AllDiffer left →
     IsPermutation (frames_of left) (frames_sent course)
 course-frames (over number free) apart = IsPermutation-refl []

@@ -1,4 +1,4 @@
--- How long an offered frame waits until it is sent, where frames are disturbed meanwhile: exactly.
+-- How long exactly an offered frame waits until it is sent on a network with hits.
 use Rattle.std.specs.Prelude.{max, nat_le, nat_lt, filter, not, slice_get, ◌&&◌}
 use Rattle.std.proofs.Common.{◌≡◌, ℕ, suc, ◌+◌, ◌-◌, ◌<◌, ◌≤◌, ◌⊎◌, Bool, true, false, Option, Some, None, List, [], ◌∷◌, ◌++◌, length, refl, sym, ◌∙◌, ap, subst, inl, inr, arith}
 use Rattle.std.proofs.lemmas.Bool.{cond-true, cond-false, cases_Bool, cases_lt, le-leb, lt-leb, lt-ltb, le-ltb}
@@ -140,7 +140,7 @@ first-left free left time f is order =
     let found = first-of time f (of_field f left) (of_field f left) head.0 (order f) refl (sym (like-offered f time left) ∙ head.1) in
     record { offer = found.0; more = found.1; first = found.2; frame = found.3; in_time = found.4 }
 
--- ---- an offer that is left, with those before it and behind it, and the attempt that sends it
+-- ---- an offer that is left, with those before it and after it, and the attempt that sends it
 
 pub record Awaits (left : List TimedParts) (course : List Transmission) (x : TimedParts) (s : Transmission) (before : List TimedParts) : Type 0 where
   pub after : List TimedParts
@@ -165,7 +165,7 @@ module _ (free time : ℕ) (f : Parts) (left : List TimedParts) (course : List T
     pub frame : f ≡ x.frame
     pub in_time : x.time ≤ time
 
-  -- or another of its field that stands before it, or one of another field
+  -- or another of its field that is before it, or one of another field
   abbrev pub SendsOther : Type 0
   SendsOther = Awaits (without_offer f left) course x s (without_offer f before)
 
@@ -333,7 +333,7 @@ wait-own (attempted number free time f hit left course is told window rest) orde
       | inr later ↦ wait-own rest (fields-left f hit left order) x s (left_by f hit before) later
     ]
 
--- ---- each attempt that starts meanwhile goes before it, or sends a frame of its field
+-- ---- each attempt that starts in between goes before it, or sends a frame of its field
 
 abbrev pub GoesFirst : Transmission → TimedParts → Type 0
 GoesFirst z x = Before (arbitration_field z.frame) (arbitration_field x.frame) ⊎ (arbitration_field z.frame ≡ arbitration_field x.frame)

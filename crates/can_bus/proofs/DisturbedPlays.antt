@@ -21,7 +21,7 @@ use Rattle.can_bus.proofs.WirePlays.{bus-after, bus-level, levels-recorded, reco
 use Rattle.can_bus.proofs.DisturbedTimes.{inverted-tells, inverted-told, view-decided}
 use Rattle.can_bus.proofs.GivenPorts.{call-refusals, made-given}
 
--- Ports that have seen so many levels.
+-- Ports that have seen this many levels.
 
 port_played-last : (offers : List Offer) (t node : ℕ) (p : PortState) (levels : List Level) (x : Level) →
     port_played offers t node p (levels ++ x ∷ []) ≡ port_step (given offers (t + length levels) node (port_played offers t node p levels)) x
@@ -174,7 +174,7 @@ module _ (offers : List Offer) (hits : List Hit) (before : BusState) (wired reco
     rest_at : after.rest ≡ (call_at (length recorded)).bus.rest
     rest_at = run.keeps_rest ∙ sym (rest-behind hits before.rest wired recorded rested own_levels) ∙ sym (ap (λ (w : WireState). w.rest) (stands_at (length recorded) (omega arith)).wire)
 
-  -- as many offers are refused
+  -- the same number of offers are refused
   refused_as : ((t : ℕ) → t ≤ length recorded → Stands t) → call_refused offers hits (length recorded) before ≡ refusals offers before.ports seen (length recorded) [] offers
   refused_as stands = call-refusals offers hits before seen (length recorded) (λ t within. (stands t (omega (arith, within))).ports)
 
@@ -275,13 +275,13 @@ played-end offers hits before after recorded refused rested run =
     let stands = stands_at offers hits before run.0 recorded run.1 after refused rested run.2 (length recorded) (omega arith) in
     same_bus after (call_after offers hits (length recorded) before).bus (run.2.leads ∙ sym stands.ports) (rest_at offers hits before run.0 recorded run.1 after refused rested run.2)
 
--- and refuses as many offers
+-- and refuses the same number of offers
 pub played-refused : (offers : List Offer) (hits : List Hit) (before after : BusState) (recorded : List Level) (refused : ℕ) → before.rest ≤ 11 → WasPlayed offers hits before recorded after refused →
     refused ≡ call_refused offers hits (length recorded) before
 played-refused offers hits before after recorded refused rested run =
     run.2.refuses ∙ sym (refused_as offers hits before run.0 recorded run.1 (stands_at offers hits before run.0 recorded run.1 after refused rested run.2))
 
--- two disturbed plays of as many bit times are one
+-- two disturbed plays of the same number of bit times are one
 pub played-one : (offers : List Offer) (hits : List Hit) (before one other : BusState) (wired wires recorded records : List Level) (seen views : List (List Level)) (few many : ℕ) → before.rest ≤ 11 →
     IsDisturbedPlay offers hits before wired recorded seen one few → IsDisturbedPlay offers hits before wires records views other many → length recorded ≡ length records →
     (recorded ≡ records) × (one ≡ other) × (wired ≡ wires) × (seen ≡ views) × (few ≡ many)

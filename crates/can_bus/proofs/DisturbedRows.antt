@@ -42,7 +42,7 @@ none_tested rest wired recorded from n tested t low high =
     grind (arith, told)
 
 -- The standard data frame 000 without data and a receiver. The reserved bit, at 16, is inverted on the wire: a bit
--- error to the sender, whose flag follows, and then a stuff error to the receiver, whose flag follows that. With 40
+-- error to the transmitter, whose flag follows, and then a stuff error to the receiver, whose flag follows that. With 40
 -- the frame begins again.
 
 abbrev frame_again : List ℕ
@@ -102,7 +102,7 @@ sender_and_receiver = port_offered frame_zero (fresh_port idle 1 1) ∷ fresh_po
 abbrev both_saw : List (List Level)
 both_saw = recorded_once ∷ recorded_once ∷ []
 
--- the sender's flag goes on up to 22 and the receiver's up to 28, and with 40 the sender starts again
+-- the transmitter's flag goes on up to 22 and the receiver's up to 28, and with 40 the transmitter starts again
 driven_then : map (λ t. wired_of (map port_drives (played_then [] t 0 sender_and_receiver both_saw))) (16 ∷ 17 ∷ 22 ∷ 23 ∷ 28 ∷ 29 ∷ 39 ∷ 40 ∷ []) ≡ levels_of (codes "00000110")
 unfolding wired_of port_drives mac_drives port_step waiting without mac_step agrees crc_of frame_of frame_len bits_of unstuffed head arbitration_field
 driven_then = refl
@@ -115,8 +115,8 @@ logged_at_last : map (λ (p : PortState). p.log) (played_then [] 93 0 sender_and
 unfolding port_step waiting without mac_step agrees crc_of frame_of frame_len bits_of unstuffed head arbitration_field
 logged_at_last = refl
 
--- Two idle ports. A dominant level is recorded at 5, which no port drove; the sixth recessive level behind it is a
--- stuff error to both. No attempt begins, and a hit in one falls nowhere.
+-- Two idle ports. A dominant level is recorded at 5, which no port drove; the sixth recessive level after it is a stuff error at both. No
+-- attempt begins, and a hit in one falls nowhere.
 
 abbrev wired_idle : List Level
 wired_idle = levels_of (codes "111111111111000000111111111111")
@@ -142,9 +142,9 @@ alone_again : beginnings line_alone line_alone ≡ 0 ∷ 59 ∷ []
 unfolding begins_at rest_before
 alone_again = refl
 
--- A port whose queue has room for one frame, and a receiver. The frame is offered twice at 0, at 49, at 50 and at 60. The second finds the
--- queue full; and so does the third, as the frame leaves the queue with the last level of its end of frame, which is 49. The fourth finds
--- room. An offer behind the end of a run isn't made, and isn't refused.
+-- A port whose queue has capacity for one frame, and a receiver. The frame is offered twice at 0, at 49, at 50 and at 60. The second
+-- finds the queue full; and so does the third, because the frame leaves the queue with the last level of its end of frame, which is 49.
+-- The fourth finds space. An offer after the end of a run is not made, and not refused.
 
 abbrev offered_often : List Offer
 offered_often = map (λ t. let offer : Offer = record { time = t; node = 0; frame = frame_zero } in offer) (0 ∷ 0 ∷ 49 ∷ 50 ∷ 60 ∷ [])

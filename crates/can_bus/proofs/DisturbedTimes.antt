@@ -18,7 +18,7 @@ use Rattle.can_bus.specs.Disturbed.{level_then, rest_before, begins_at, attempts
 use Rattle.can_bus.specs.Run.{aged, begins_attempt, following, hits_view, hits_wire, inverted_if, is_attempt, rest_after}
 use Rattle.can_bus.proofs.Members.{none-taken}
 
--- How many recessive levels stand last.
+-- How many recessive levels come last.
 
 last-more : (levels : List Level) (x : Level) → suffix_len is_recessive (levels ++ x ∷ []) ≡ cond (is_recessive x) (1 + suffix_len is_recessive levels) 0
 last-more levels x = rw reverse-append refl
@@ -67,7 +67,7 @@ never_opposite : (a : Level) → a ≡ opposite a → ⊥
 never_opposite Dominant e = cc
 never_opposite Recessive e = cc
 
--- a level that is inverted as a test says is the opposite exactly where what the test decides is true
+-- a level that is inverted as a test says is the opposite exactly if what the test decides is true
 pub inverted-tells : {P : Type 0} (hit : Bool) (x y : Level) → (hit ≡ true) ↔ P → y ≡ inverted_if hit x → (y ≡ opposite x) ↔ P
 inverted-tells true x y decides e = (λ h. decides.0 refl, λ p. e)
 inverted-tells false x y decides e = (λ h. absurd (never_opposite x (sym e ∙ h)), λ p. absurd (false≢true (decides.1 p)))

@@ -101,7 +101,7 @@ waiting-head queue f is =
 same-head : (f w : Parts) (a b : List Parts) → f ∷ a ≡ w ∷ b → w ≡ f
 same-head f w a b both = cc
 
--- where none goes before it, the first of a field waits
+-- if none has higher priority, the first of a field waits
 pub head-waits : (queue : List Parts) (f : Parts) (more : List Parts) → like f queue ≡ f ∷ more → ((x : Parts) → Has x queue → (arbitration_field f ≡ arbitration_field x) ⊎ Goes f x) →
     waiting queue ≡ Some f
 head-waits queue f more head least =
@@ -145,7 +145,7 @@ without-cases f (y ∷ offers) x there = elim (cases_Bool (same_field f y.frame)
   ]
 ]
 
--- where no two have one field
+-- if no two have one field
 pub without-differ : (f : Parts) (offers : List TimedParts) → AllDiffer offers → AllDiffer (without_offer f offers)
 without-differ f [] apart = tt
 without-differ f (x ∷ offers) apart = elim (cases_Bool (same_field f x.frame)) [
@@ -196,7 +196,7 @@ without-length f (y ∷ offers) x there same = elim (cases_Bool (same_field f y.
   ]
 ]
 
--- where it stands in the first of two lists, or in none of it
+-- if it is in the first of two lists, or in none
 pub without-front : (f : Parts) (a b : List TimedParts) (x : TimedParts) → Lists a x → same_field f x.frame ≡ true → without_offer f (a ++ b) ≡ without_offer f a ++ b
 without-front f [] b x there same = absurd (stands-none x there)
 without-front f (y ∷ a) b x there same = elim (cases_Bool (same_field f y.frame)) [
@@ -213,7 +213,7 @@ without-behind f (y ∷ a) b other =
     first-stays f y (a ++ b) (other-test f y.frame (other y (stands-here y a)))
     ∙ ap (λ l. y ∷ l) (without-behind f a b (λ x there. other x (stands-later y a x there)))
 
--- it is all the same whether a field is looked at before or behind
+-- it does not matter whether a field is compared before or after
 pub field-without : (g f : Parts) (offers : List TimedParts) → of_field g (without_offer f offers) ≡ without_offer f (of_field g offers)
 field-without g f [] = refl
 field-without g f (x ∷ offers) =
@@ -240,7 +240,7 @@ field-without g f (x ∷ offers) =
           ])
     ]
 
--- what is left at a time, where the offers come in order
+-- what is left at a time, if the offers come in order
 pub without-in_time : (f : Parts) (t : ℕ) (own : List TimedParts) → AreInOrder own → without f (offered_by t own) ≡ offered_by t (without_offer f own)
 unfolding without
 without-in_time f t [] order = refl

@@ -41,7 +41,7 @@ made-given (offer ∷ offers) t ports = elim (cases_Bool (eqb offer.time t)) [
       ap (all_made offers t) (cond-false (eqb offer.time t) (made offer 0 ports) ports other) ∙ made-given offers t ports ∙ sym (given-other offer offers t other 0 ports)
 ]
 
--- ---- one offer behind
+-- ---- one offer after
 
 given-last : (earlier : List Offer) (offer : Offer) (t k : ℕ) (p : PortState) →
     given (earlier ++ offer ∷ []) t k p ≡ (if eqb offer.time t && eqb offer.node k then with_offer offer.frame (given earlier t k p) else given earlier t k p)
@@ -68,7 +68,7 @@ module _ (earlier : List Offer) (offer : Offer) (t : ℕ) where
 abbrev one_if : Bool → ℕ
 one_if b = if b then 1 else 0
 
--- the offer is of this time, and finds a full queue behind these
+-- the offer is of this time, and finds a full queue after these
 abbrev full_now : ℕ → List PortState → List Offer → Offer → Bool
 full_now t ports earlier offer = eqb offer.time t && is_full offer.node (all_given earlier t 0 ports)
 
@@ -144,7 +144,7 @@ module _ (offers : List Offer) (ports : List PortState) (seen : List (List Level
   refusals-more bits [] earlier = refl
   refusals-more bits (offer ∷ later) earlier = omega (arith, full-more bits earlier offer, refusals-more bits later (earlier ++ offer ∷ []))
 
--- where the ports of a call are those of the lists, as many offers are refused
+-- if the ports of a call are those of the lists, the same number of offers are refused
 pub call-refusals : (offers : List Offer) (hits : List Hit) (before : BusState) (seen : List (List Level)) (bits : ℕ) →
     ((t : ℕ) → t < bits → (call_after offers hits t before).bus.ports ≡ played_then offers t 0 before.ports seen) → call_refused offers hits bits before ≡ refusals offers before.ports seen bits [] offers
 unfolding call_refused

@@ -1,5 +1,5 @@
--- In each bit time of a frame that is broken off, at a port at which frames arrive meanwhile: nothing is logged, no entry is missed, and the counters stay
--- within their bounds.
+-- In each bit time of a frame that is broken off, at a port at which frames arrive in the meantime: nothing is logged, no entry is
+-- missed, and the counters stay within their bounds.
 use Rattle.std.proofs.Common.{◌≡◌, ℕ, zero, suc, ◌<◌, ◌≤◌, Some, List, [], ◌∷◌, ◌++◌, length, take, refl, sym, ap, subst, ◌∙◌, arith, inl, inr}
 use Rattle.std.proofs.lemmas.List.{length-take-le, get_or-take}
 use Rattle.can_frame.specs.declared.level.Level.{Level}
@@ -30,7 +30,7 @@ use Rattle.can_bus.proofs.AttemptTallies.{within-more, sender-within, receiver-w
 use Rattle.can_bus.proofs.RepairCounts.{within-role}
 use Rattle.can_bus.proofs.Repairs.{bear-port, broken_levels}
 
--- it holds of the port before each of these levels, and behind the last
+-- it holds of the port before each of these levels, and after the last
 abbrev pub AllAlong : (PortState → Type 0) → List Level → GainingPort → Type 0
 AllAlong P [] g = P g.port
 AllAlong P (x ∷ levels) g = P g.port × AllAlong P levels (gaining_step g x)

@@ -26,7 +26,7 @@ module _ {M : Type 0} (drive : M → Level) (step : Level → M → M) (hits : L
   abbrev pub hit_seen : HitWire M → Level
   hit_seen w = inverted_if (falls hits (hit_latest w)) (wired (map drive w.machines))
 
-  -- one bit time, and so many
+  -- one bit time, and this many
   abbrev pub hit_step : HitWire M → HitWire M
   hit_step w = record { machines = map (step (hit_seen w)) w.machines; rest = rest_after w.rest (hit_seen w); latest = hit_latest w }
 
@@ -39,7 +39,7 @@ module _ {M : Type 0} (drive : M → Level) (step : Level → M → M) (hits : L
   hit_runs-joined zero n w = ap (λ k. hit_run k w) (let e : 0 + n ≡ n = omega arith in e)
   hit_runs-joined (suc m) n w = ap (λ k. hit_run k w) (let e : suc m + n ≡ suc (m + n) = omega arith in e) ∙ hit_runs-joined m n (hit_step w)
 
-  -- one bit time, where the level is known
+  -- one bit time, if the level is known
   abbrev known : HitWire M → Level → Level → HitWire M
   known w x seen = record { machines = map (step seen) w.machines; rest = rest_after w.rest seen; latest = latest_now w.latest w.rest x }
 
@@ -52,7 +52,7 @@ module _ {M : Type 0} (drive : M → Level) (step : Level → M → M) (hits : L
       hit_seen w ≡ l.1
   hit_seen-known l w wire fall = ap (λ y. inverted_if (falls hits (latest_now w.latest w.rest y)) y) wire ∙ fall
 
-  -- the wire behind these levels
+  -- the wire after these levels
   abbrev pub hit_after : HitWire M → List (Level × Level) → HitWire M
   hit_after w levels = record { machines = all_after step (seen_of levels) w.machines; rest = rest_run w.rest (seen_of levels); latest = latest_after w.latest w.rest levels }
 
@@ -77,7 +77,7 @@ module _ {M : Type 0} (drive : M → Level) (step : Level → M → M) (hits : L
   hits-levels (l ∷ levels) w (suc t) d gives fall within =
       ap (λ v. hit_seen (hit_run t v)) (hit_step-known l w gives.0 fall.0) ∙ hits-levels levels (known w l.0 l.1) t d gives.1 fall.1 (omega (arith, within))
 
-  -- levels behind others
+  -- levels after others
   pub gives-behind : (a : List Level) (b : List (Level × Level)) (ms : List M) → Gives drive step (undisturbed a) ms → Gives drive step b (all_after step a ms) →
       Gives drive step (undisturbed a ++ b) ms
   gives-behind [] b ms first next = next

@@ -1,4 +1,4 @@
--- How many bit times later than the sender the receivers of a frame that is hit have their error.
+-- How many bit times later than the transmitter the receivers of a frame that is hit have their error.
 use Rattle.std.specs.Prelude.{option_and_then, ◌↔◌}
 use Rattle.std.proofs.Common.{◌≡◌, ◌≢◌, ℕ, zero, suc, ◌+◌, ◌-◌, ◌<◌, ◌≤◌, ◌⊎◌, true, false, Option, Some, None, List, [], ◌∷◌, ◌++◌, length, take, drop, replicate, refl, sym, ◌∙◌, ap, subst, arith, inl, inr, append_assoc, length-append}
 use Rattle.std.proofs.Math.Dec.{eqb}
@@ -38,7 +38,7 @@ until_refused-few most None = omega arith
 until_refused-few zero (Some v) = omega arith
 until_refused-few (suc most) (Some v) = omega (arith, until_refused-few most (hear_at (next_place v) v Dominant))
 
--- a level that repeats the one before it at a stuff place is refused, and any where the stuffed part has ended
+-- a level that repeats the one before it in the place of a stuff bit is an error, and any dominant one after the end of the stuffed part
 pub stuff-refused : (v : FrontParts) (x : Level) → is_stuff_error v x ≡ true → hear_at (next_place v) v x ≡ None
 stuff-refused v x e =
     ap (λ p. hear_at p v x) (cond-true (eqb v.run 5) StuffBit _ (and_parts (eqb v.run 5) (same x v.last) e).0)
@@ -47,7 +47,7 @@ stuff-refused v x e =
 pub end-refused : (v : FrontParts) (x : Level) → next_place v ≡ delimiter_next → hear_at (next_place v) v x ≡ None
 end-refused v x e = ap (λ p. hear_at p v x) e
 
--- what a receiver's phase tells of what it has heard
+-- what a receiver's phase shows of what it has heard
 pub phase-going : (v w : FrontParts) → part_phase v ≡ StuffedPart w → (next_place v ≢ delimiter_next) × (v ≡ w)
 phase-going v w e = elim (ended_or_going (next_place v)) [
   | inl over ↦ (let other = cond-true (ends_part v) (CrcDelimiter (reading_of v.unstuffed)) (StuffedPart v) (ends_part-ended v over) in cc)
@@ -70,7 +70,7 @@ some-errs (stuffed w error) = omega arith
 some-errs (ended r) = omega arith
 some-errs (goes_on w j none next) = omega arith
 
--- so many dominant levels, up to its error
+-- this many dominant levels, to the one that is an error
 errs-refused : {j : ℕ} {phase : MacPhase} → ErrsIn j phase → (v : FrontParts) → part_phase v ≡ phase → (most : ℕ) → j ≤ suc most → until_refused (suc most) (Some v) ≡ j
 errs-refused (stuffed w error) v e most few =
     ap (λ r. suc (until_refused most r)) (stuff-refused v Dominant (subst (λ u. is_stuff_error u Dominant ≡ true) (sym (phase-going v w e).1) error))
@@ -80,7 +80,7 @@ errs-refused (goes_on w j none next) v e (suc most) few =
     ap (λ r. suc (until_refused (suc most) r)) (goes-heard v w e none)
     ∙ ap suc (errs-refused next (heard_level v Dominant) (ap (λ u. part_phase (heard_level u Dominant)) (phase-going v w e).1) most (omega (arith, few)))
 
--- with as many the levels are refused, and with fewer they aren't
+-- with this many one of the levels is an error, and with fewer none
 abbrev heard-behind : Option FrontParts → ℕ → Option FrontParts
 heard-behind v k = option_and_then (λ u. heard_levels u (replicate k Dominant)) v
 
@@ -119,7 +119,7 @@ module _ (f : Parts) (is : IsFrame f) (o : ℕ) (some : 0 < o) where
       ∙ ap (heard_levels first_front) (drop-first b ys (omega (arith, size, some)))
       ∙ heard_levels-append (drop 1 b) ys first_front (front_at f o) (front_at-heard f is o some within)
 
--- behind it
+-- after it
 heard-late : (f : Parts) (is : IsFrame f) (o : ℕ) (ys : List Level) → length (stuffed_part f) ≤ o → 0 < length ys → heard_levels first_front (drop 1 (take o (wire f) ++ ys)) ≡ None
 heard-late f is o ys past some =
     let n = length (stuffed_part f) in
@@ -143,7 +143,7 @@ module _ (f : Parts) (is : IsFrame f) (o : ℕ) (some : 0 < o) where
   abbrev pub other : Level
   other = opposite (level_at (wire f) o)
 
-  -- what is made of it, and of dominant levels behind it
+  -- the receiver's state after it, and after the dominant levels that follow it
   pub struck-behind : (k : ℕ) → n ≤ o → heard_levels first_front (drop 1 (struck f o k)) ≡ None
   struck-behind k past = heard-late f is o (other ∷ replicate k Dominant) past (omega arith)
 
@@ -186,7 +186,7 @@ module _ (f : Parts) (is : IsFrame f) (o : ℕ) (some : 0 < o) where
       let not_five : v.run ≢ 5 = free in
       soon (heard_level v other) (omega (arith, run, run_after-ge v.last v.run other)) (omega (arith, run, run_after-le v.last v.run other, front.short, not_five))
 
--- the levels are refused with so many dominant levels, and not with fewer
+-- with this many dominant levels one is an error, and with fewer none
 pub refused-exactly : (f : Parts) (o k : ℕ) → IsFrame f → 0 < o → (heard_levels first_front (drop 1 (struck f o k)) ≡ None) ↔ (lateness f o ≤ k)
 refused-exactly f o k is some = elim (cases_lt o (length (stuffed_part f))) [
   | inr past ↦ (λ e. omega (arith, late-behind f is o some past), λ few. struck-behind f is o some k past)
@@ -206,7 +206,7 @@ refused-exactly f o k is some = elim (cases_lt o (length (stuffed_part f))) [
         let by = refused-by 6 k (Some u) (omega (arith, seven, first.1.0)) in
         (λ none. omega (arith, late, seven, by.0 (sym heard ∙ none)), λ few. heard ∙ by.1 (omega (arith, late, seven, few)))
 
--- they are late but where a stuff bit is hit, or a level behind the stuffed part
+-- their error comes later unless a stuff bit is hit, or a level after the stuffed part
 pub late-at_once : (f : Parts) (o : ℕ) → IsFrame f → 0 < o → (lateness f o ≡ 0) ↔ ((is_stuff_place (stuffed_part f) o ≡ true) ⊎ (length (stuffed_part f) ≤ o))
 late-at_once f o is some = elim (cases_lt o (length (stuffed_part f))) [
   | inr past ↦ (λ e. inr past, λ h. late-behind f is o some past)
@@ -249,6 +249,6 @@ module _ (f : Parts) (is : IsFrame f) (o : ℕ) (hit : IsHit f o) where
   breaks-late (at_stuff_bit more five) few = late-stuff_bit f is o hit.some more five
   breaks-late (at_bit j more free errs) few = late-bit f is o hit.some more free (subst (λ x. ErrsIn j (part_phase (heard_level (front_at f o) x))) hit-level errs) few
 
-  -- they are so many bit times late
+  -- their error comes this many bit times later
   pub lateness-breaks : lateness f o ≡ (breaks-soon f is o hit).0
   lateness-breaks = let first = breaks-soon f is o hit in breaks-late first.1.1 first.1.0

@@ -1,4 +1,4 @@
--- Where a decoder has its fault at the levels of a frame that is hit, and dominant levels behind them.
+-- Where a decoder has its fault in the levels of a frame that is hit, and the dominant levels after them.
 use Rattle.std.proofs.Common.{◌≡◌, ◌≢◌, ℕ, zero, suc, ◌+◌, ◌-◌, ◌<◌, ◌≤◌, Bool, true, false, List, [], ◌∷◌, ◌++◌, length, take, replicate, refl, sym, ◌∙◌, ap, subst, arith, inl, inr, append_assoc, length-append}
 use Rattle.std.proofs.Math.Dec.{eqb}
 use Rattle.std.proofs.lemmas.Bool.{cases_eq, cases_lt, and_parts, eqb-true}
@@ -54,7 +54,7 @@ module _ (u b : List Level) (part : IsPart u b) (t : List Level) where
       by_test true e = refused-form ((agrees-Decides u).0 e)
       by_test false e = refused-crc (λ is. (let yes : agrees u ≡ true = (agrees-Decides u).1 is in cc))
 
--- so many dominant levels, up to the one that is refused
+-- this many dominant levels, to the one that is an error
 refused-in : {j : ℕ} {phase : MacPhase} → ErrsIn j phase → (b : List Level) (v : FrontParts) → IsFrontOf b v → part_phase v ≡ phase → (m : ℕ) → j ≤ suc m → (place : ℕ) → place + 1 ≡ length b + j →
     IsRefusedAt (b ++ replicate (suc m) Dominant) place
 refused-in (stuffed w error) b v r e m enough place at =

@@ -6,7 +6,7 @@ use Rattle.std.specs.List.Sorted.{IsPermutation}
 use Rattle.std.proofs.lemmas.List.Sorted.{Contains-permutation}
 use Rattle.std.proofs.lemmas.Option.{get_or_from_slice_get, slice_get-get_or, slice_get-map, slice_get_within}
 
--- x stands in the list
+-- x is in the list
 abbrev pub Stands : {A : Type 0} → List A → A → Type 0
 Stands xs x = (n : ℕ) × (slice_get xs n ≡ Some x)
 
@@ -42,7 +42,7 @@ stands-among [] y ys x s = stands-later y ys x s
 stands-among (z ∷ xs) y ys x s =
     elim (stands-cases z (xs ++ ys) x s) [ inl e ↦ (0, ap Some e) | inr later ↦ stands-later z (xs ++ y ∷ ys) x (stands-among xs y ys x later) ]
 
--- ---- two lists, one behind the other
+-- ---- two lists, one after the other
 
 pub stands-front : {A : Type 0} (a b : List A) (x : A) → Stands a x → Stands (a ++ b) x
 stands-front [] b x s = let e = s.1 in cc

@@ -1,4 +1,4 @@
--- What a bus of any ports does to which frames are offered meanwhile, and on which frames are disturbed, told by their course: the clauses of the theorem.
+-- What a bus of any ports does with offers at run time and hits, in terms of its course: the clauses of the theorem.
 use Rattle.std.specs.Prelude.{◌↔◌, slice_get}
 use Rattle.std.proofs.Common.{◌≡◌, ℕ, zero, suc, ◌+◌, ◌<◌, false, Some, None, List, [], ◌∷◌, ◌++◌, length, map, refl, sym, ap, subst, ◌∙◌, arith, true}
 use Rattle.std.proofs.Math.Dec.{leb}
@@ -48,7 +48,7 @@ pub valid-ports : {X : Type 0} (state : X → PortState) → ((x : X) → IsPort
 valid-ports state valid [] = tt
 valid-ports state valid (x ∷ xs) = (valid x, valid-ports state valid xs)
 
--- where no attempt has begun none is hit
+-- if no attempt has begun none is hit
 none-falls : (hits : List Hit) → AreWithin hits → falls hits None ≡ false
 none-falls [] h = refl
 none-falls (In number offset ∷ hits) h = none-falls hits h
@@ -69,7 +69,7 @@ front-empty [] b e = refl
 front-empty (f ∷ a) b e = absurd (let h : f ∷ (a ++ b) ≡ [] = e in cc)
 
 module _ (most : ℕ) (course : List Transmission) (until : ℕ) (offers : List Offer) where
-  -- what is offered behind the last bit time has no part in what has become of a port
+  -- what is offered after the last bit time has no influence on a port
   each-before : (t node : ℕ) (os : List CoursePort) (ports : List PortState) → Each (Becomes most course until) os (all_arrived offers t node ports) → Each (Becomes most course until) os ports
   each-before t node [] [] each = tt
   each-before t node [] (p ∷ ports) each = each
@@ -116,7 +116,7 @@ module _ (offers : List Offer) (hits : List Hit) (course : List Transmission) (b
   abbrev within : AreWithin hits
   within = call-within offers hits course bus valid framed call
 
-  -- from counters of so many errors at most
+  -- from counters of this many errors at most
   follows-call : (h : ℕ) → AllCountAtMost h bus.ports → (n : ℕ) → Follows hits (h + hits_made course) course n os (later hits (h + hits_made course) n w)
   follows-call h few n =
       let two : 1 < length os = omega (arith, length-course offers 0 bus.ports, call.two) in
@@ -179,7 +179,7 @@ module _ (offers : List Offer) (hits : List Hit) (course : List Transmission) (b
         let is = (at-port errors few node p q before now).within in
         record { tec = is.tec; rec = is.rec }
 
-    -- where nothing is counted, and nothing has been, they are as they were
+    -- if nothing is counted, and nothing has been, they are as they were
     pub network-unmoved : AllCountAtMost 0 bus.ports → hits_made course ≡ 0 → AtEachPort CountsNothing bus.ports after.ports
     network-unmoved none unhit node p q before now =
         let is = (at-port 0 none node p q before now).within in
@@ -195,7 +195,7 @@ module _ (offers : List Offer) (hits : List Hit) (course : List Transmission) (b
     pub network-missed : AtEachPort MissesNothing bus.ports after.ports
     network-missed node p q before now = (at-port 128 all-low node p q before now).missed
 
-    -- behind the last attempt all rest
+    -- after the last attempt all are at rest
     pub network-rests : AllOver course n → RestsAgain bus after
     network-rests over =
         let rooms : map rooms_of after.ports ≡ map rooms_of bus.ports = ap (λ (b : BusState). map rooms_of b.ports) ran ∙ call-rooms offers hits n bus in

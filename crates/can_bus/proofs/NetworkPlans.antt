@@ -28,7 +28,7 @@ use Rattle.can_bus.proofs.PlayedRuns.{to-other}
 use Rattle.can_bus.proofs.QuietPlans.{quiet-each}
 use Rattle.can_bus.proofs.RepairPlans.{few-before, hit-counts, hits_before, struck-there}
 
--- ---- fifteen hits are borne
+-- ---- fifteen hits are tolerated
 
 -- no more attempts are hit than there are hits
 hits-few : {hits : List Hit} {number free : ℕ} {left : List TimedParts} {course : List Transmission} → IsCourse hits number free left course → hits_before hits number + hits_made course ≤ length hits

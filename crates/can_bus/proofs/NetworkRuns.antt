@@ -1,4 +1,4 @@
--- A bus to whose ports frames are offered meanwhile, and on which hits fall within attempts: a wire with hits, of ports that gain frames.
+-- A bus with offers at run time, and with hits within attempts: a wire with hits, of ports that gain frames.
 use Rattle.std.proofs.Common.{◌≡◌, ℕ, zero, suc, ◌+◌, List, map, refl, sym, ap, subst, ◌∙◌, arith}
 use Rattle.can_frame.specs.declared.level.Level.{Level}
 use Rattle.can_node.specs.Ports.{port_drives}

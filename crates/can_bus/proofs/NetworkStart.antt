@@ -1,4 +1,4 @@
--- Where a network begins: its ports, as the offers of time 0 are made, and the offers that are left, which are all.
+-- The start of a network: its ports after the offers of time 0, and the offers that are left, which are all.
 use Rattle.std.specs.Prelude.{slice_get}
 use Rattle.std.proofs.Common.{◌≡◌, ℕ, suc, ◌+◌, ◌<◌, ◌≤◌, true, false, Some, None, List, [], ◌∷◌, ◌++◌, length, take, refl, sym, ap, subst, ◌∙◌, arith, inl, inr, append_assoc}
 use Rattle.std.proofs.lemmas.List.{append-nil}

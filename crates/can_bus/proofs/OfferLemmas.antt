@@ -46,14 +46,14 @@ pub made-here : {X : Type 0} (S : X → PortState) (offer : Offer) (xs : List X)
     S y ≡ with_offer offer.frame (S (get_or xs offer.node d)) → map S (set xs offer.node y) ≡ made offer 0 (map S xs)
 made-here S offer xs y d within is = made-set S offer 0 offer.node xs y d within (omega arith) is
 
--- the port of this number is asked for room
+-- whether the port with this number has space
 pub full-here : {X : Type 0} (S : X → PortState) (node : ℕ) (xs : List X) (d : X) → node < length xs →
     is_full node (map S xs) ≡ nat_le (S (get_or xs node d)).queue_room (length (S (get_or xs node d)).queue)
 full-here S node [] d within = absurd (omega arith)
 full-here S zero (x ∷ xs) d within = refl
 full-here S (suc node) (x ∷ xs) d within = full-here S node xs d (omega arith)
 
--- a port that was offered a frame, by its answer
+-- a port that was offered a frame, from what it returned
 pub offer-made : {T E : Type 0} (f : Parts) (p q : PortState) (answer : Result T E) → (IsOk answer ↔ (length p.queue < p.queue_room)) → OnOk answer (q ≡ port_offered f p) →
     OnErr answer (q ≡ p) → (q ≡ with_offer f p) × (is_ok answer ≡ not (nat_le p.queue_room (length p.queue)))
 offer-made f p q (Ok x) fits taken kept =
@@ -124,7 +124,7 @@ none_made (offer ∷ offers) t ports none =
     let rest = none_made offers t ports (λ n later at. none (suc n) later at) in
     (other_made offer offers t ports (none 0 offer refl) ∙ rest.0, other_refused offer offers t ports (none 0 offer refl) ∙ rest.1)
 
--- behind the last of this time
+-- after the last of this time
 pub rest_none : (offers : List Offer) (place t : ℕ) (ports : List PortState) → ((n : ℕ) (offer : Offer) → place ≤ n → slice_get offers n ≡ Some offer → offer.time ≢ t) →
     (all_made (drop place offers) t ports ≡ ports) × (refused_at (drop place offers) t ports ≡ 0)
 rest_none [] zero t ports none = (refl, refl)

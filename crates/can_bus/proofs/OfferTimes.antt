@@ -70,7 +70,7 @@ by-none t s [] less from = refl
 by-none t s (x ∷ own) less from =
     by-late x own t (omega (arith, less, from x (stands-here x own))) ∙ by-none t s own less (λ y h. from y (stands-later x own y h))
 
--- those of the next time stand before those of later ones
+-- those of the next time come before those of later ones
 pub at-next : (own : List TimedParts) → AreInOrder own → (t : ℕ) → offered_by t own ++ offered_at own (suc t) ≡ offered_by (suc t) own
 at-next [] order t = refl
 at-next (x ∷ own) order t = elim (cases_lt t x.time) [
@@ -105,7 +105,7 @@ frames-offered t (x ∷ own) are = elim (cases_lt t x.time) [
   | inr early ↦ subst AreFrames (sym (by-early x own t early)) (are.0, frames-offered t own are.1)
 ]
 
--- n bit times later, in which what has arrived waits behind this queue
+-- n bit times later, in which what has arrived waits after this queue
 pub queue-later : (now n : ℕ) (arrives : ℕ → List Parts) (queue : List Parts) (own : List TimedParts) → ((m : ℕ) → queue ++ arrived arrives m ≡ offered_by (now + m) own) →
     (m : ℕ) → (queue ++ arrived arrives n) ++ arrived (later_by n arrives) m ≡ offered_by ((now + n) + m) own
 queue-later now n arrives queue own is m =

@@ -1,4 +1,4 @@
--- Where all frames are offered at time 0 a bus to which frames are offered is a quiet bus at which they wait.
+-- If all frames are offered at time 0 a bus to which frames are offered is a quiet bus at which they wait.
 use Rattle.std.specs.Prelude.{filter, option_map, slice_get}
 use Rattle.std.proofs.Common.{◌≡◌, ℕ, zero, suc, ◌+◌, ◌<◌, Option, Some, None, List, [], ◌∷◌, ◌++◌, length, map, refl, sym, ap, subst, ◌∙◌, arith, inl, inr}
 use Rattle.std.specs.List.Sorted.{IsPermutation}
@@ -167,7 +167,7 @@ module _ (offers : List Offer) (first : AreAtOnce (map timed offers)) where
   none-later : (t : ℕ) (ports : List PortState) → all_made offers (suc t) ports ≡ ports
   none-later t ports = (none_made offers (suc t) ports (λ n offer there now. omega (arith, now, first (timed offer) (stands-map timed offers offer (n, there))))).0
 
-  -- so it is what is played behind them without offers
+  -- so it is what is played afterwards without offers
   abbrev IsStill : ℕ → BusState → Type 0
   IsStill n bus = record (played offers n bus) { ports = all_made offers n (played offers n bus).ports } ≡ played [] n (with_first offers bus)
 

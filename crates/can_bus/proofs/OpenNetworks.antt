@@ -1,4 +1,4 @@
--- An open bus is a network without hits: what its theorem says is told from the network's.
+-- An open bus is a network without hits: its theorem follows from the network's.
 use Rattle.std.specs.Prelude.{slice_get}
 use Rattle.std.specs.List.Sorted.{IsPermutation}
 use Rattle.std.proofs.Common.{◌≡◌, ℕ, zero, suc, ◌+◌, ◌<◌, Some, None, List, [], ◌∷◌, ◌++◌, length, map, refl, sym, ap, subst, ◌∙◌, arith}

@@ -1,4 +1,4 @@
--- Where a bus begins to which frames are offered meanwhile: its ports, as the offers of time 0 are made, and the room that they have.
+-- The start of a bus with offers at run time: its ports after the offers of time 0, and the space that they have.
 use Rattle.std.specs.Prelude.{filter, slice_get}
 use Rattle.std.proofs.Common.{◌≡◌, ℕ, suc, ◌+◌, ◌≤◌, Some, List, [], ◌∷◌, ◌++◌, length, refl, sym, ap, subst, arith, inl, inr}
 use Rattle.std.proofs.Math.Dec.{eqb}
@@ -13,7 +13,7 @@ use Rattle.can_bus.proofs.Members.{filter-stands, map-stands}
 use Rattle.can_bus.proofs.OfferTimes.{AreInOrder, at-first, length-offered_by}
 use Rattle.can_bus.proofs.PlayedRuns.{AreRoomy, HaveRoomNow, all_arrived, arriving, to-here, to-other}
 
--- it holds of each port and its number, where the first has this one
+-- it holds of each port and its number, if the first has this one
 abbrev pub EachFrom : (ℕ → PortState → Type 0) → ℕ → List PortState → Type 0
 EachFrom P node [] = Unit {0}
 EachFrom P node (p ∷ ports) = P node p × EachFrom P (node + 1) ports
@@ -27,7 +27,7 @@ each-from P node (p ∷ ports) each = (
 
 -- ---- the wire
 
--- there is room for what a port has and for all that is offered to it
+-- there is space for what a port has and for all that is offered to it
 abbrev HasRoom : List Offer → ℕ → PortState → Type 0
 HasRoom offers node p = length (own_offers offers node p) ≤ p.queue_room
 

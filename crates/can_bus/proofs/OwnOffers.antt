@@ -9,7 +9,7 @@ use Rattle.can_bus.proofs.Members.{stands-back, stands-cases, stands-here, stand
 use Rattle.can_bus.proofs.LeftOffers.{AllDiffer}
 use Rattle.can_bus.proofs.QuietLogs.{other-test}
 
--- ---- two lists, one behind the other
+-- ---- two lists, one after the other
 
 pub differ-back : (a b : List TimedParts) → AllDiffer (a ++ b) → AllDiffer b
 differ-back [] b apart = apart
@@ -25,7 +25,7 @@ differ-across (z ∷ a) b apart x y s t = elim (stands-cases z a x s) [
 -- ---- without a frame
 
 module _ (f : Parts) where
-  -- where it is the frame of the first offer, or of none of these
+  -- if it is the frame of the first offer, or of none of these
   module _ (x : TimedParts) (own : List TimedParts) where
     pub first-out : same_field f x.frame ≡ true → without_offer f (x ∷ own) ≡ own
     first-out same = cond-true (same_field f x.frame) own (x ∷ without_offer f own) same

@@ -1,4 +1,4 @@
--- Where each arbitration field belongs to one port: of each field all frames are those of its port, in the same order.
+-- If each arbitration field belongs to one port: of each field all frames are those of its port, in the same order.
 use Rattle.std.specs.Prelude.{filter, slice_get, if◌then◌else◌}
 use Rattle.std.proofs.Common.{◌≡◌, ◌≢◌, ℕ, zero, suc, ◌+◌, ◌<◌, ◌⊎◌, true, false, Some, None, List, [], ◌∷◌, ◌++◌, length, map, refl, sym, ap, subst, ◌∙◌, arith, inl, inr}
 use Rattle.std.proofs.Math.Dec.{eqb}
@@ -79,7 +79,7 @@ module _ (f : Parts) where
               ∙ rest.1,
         )
 
-    -- where one alone may have some
+    -- if one alone may have some
     ports-one : (node : ℕ) (ports : List PortState) (m : ℕ) (p : PortState) → slice_get ports m ≡ Some p →
         ((n : ℕ) (q : PortState) → n ≢ m → slice_get ports n ≡ Some q → NoneOf (own_offers offers (node + n) q)) →
         (of_field f (port_offers offers node ports) ≡ of_field f (own_offers offers (node + m) p)) × (of_field f (offered_first (queued ports)) ≡ of_field f (offered_first p.queue))
@@ -106,7 +106,7 @@ module _ (f : Parts) where
               ∙ rest.1,
         )
 
-    -- what is offered of a field, where one port alone may have it
+    -- what is offered of a field, if one port alone may have it
     offers-one : (m : ℕ) (some : List Offer) → ((n : ℕ) (offer : Offer) → slice_get some n ≡ Some offer → offer.node ≢ m → Other f offer.frame) →
         of_field f (map timed some) ≡ of_field f (offered_to m some)
     offers-one m [] others = refl
@@ -135,7 +135,7 @@ module _ (f : Parts) where
             subst (λ q. NoneOf (own_offers offers (node + 0) q)) same (subst (λ k. NoneOf (own_offers offers k x)) (let e : node ≡ node + 0 = omega arith in e) here)
         by-place here none (suc n) p at = subst (λ k. NoneOf (own_offers offers k p)) (let e : (node + 1) + n ≡ node + suc n = omega arith in e) (none n p at)
 
-    -- of the field of f, all frames are those told port by port
+    -- of the field of f, all frames are those of all ports, one port after another
     pub start-fields : (ports : List PortState) → AreOffered (length ports) offers → FieldsAreOwned offers ports → of_field f (all_offers offers ports) ≡ of_field f (port_offers offers 0 ports)
     start-fields ports offered owned = field-append (offered_first (queued ports)) (map timed offers) ∙ elim (owner-cases 0 ports) [
       | inl none ↦

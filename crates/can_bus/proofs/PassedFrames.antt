@@ -1,4 +1,4 @@
--- A frame that passes a bus at once: the levels of its bit times, and the bus behind them.
+-- A frame that passes a bus in one step: the levels of its bit times, and the bus after them.
 use Rattle.std.specs.Prelude.{if◌then◌else◌}
 use Rattle.std.specs.List.{list_any}
 use Rattle.std.proofs.Common.{◌≡◌, ◌≢◌, ℕ, zero, suc, ◌+◌, ◌-◌, ◌<◌, ◌≤◌, true, false, Option, Some, List, [], ◌∷◌, length, map, take, get_or, refl, sym, ap, subst, ◌∙◌, arith}
@@ -73,7 +73,7 @@ module _ (hits : List Hit) (f : Parts) (is : IsFrame f) (time : ℕ) (latest : O
       ∙ ap (λ b. inverted_if b (wired_level (stage o))) (free.wire o within)
       ∙ wires o within
 
-  -- and behind it
+  -- and after it
   pub stage-step : (o : ℕ) → o < m →
       bus_step hits (stage o) ≡ call_of (map (sees (level_at (with_intermission f) o)) (P o)) (rest_run 11 (take (suc o) (with_intermission f))) (time + suc o) (latest_at latest (suc o))
   unfolding bus_step
@@ -84,7 +84,7 @@ module _ (hits : List Hit) (f : Parts) (is : IsFrame f) (time : ℕ) (latest : O
       ∙ same_call (unviewed hits (time + o) x (λ node. free.view o node within) 0 (P o)) (sym (rest_at-next f is 11 o (omega (arith, within, short))))
       (let e : time + o + 1 ≡ time + suc o = omega arith in e) (attempt-at o within)
 
--- the same where nothing is offered meanwhile
+-- the same if nothing is offered during it
 module _ (hits : List Hit) (f : Parts) (is : IsFrame f) (ports : List PortState) (time : ℕ) (latest : Option Attempt) where
   abbrev line : List Level
   line = with_intermission f
@@ -117,7 +117,7 @@ module _ (hits : List Hit) (f : Parts) (is : IsFrame f) (ports : List PortState)
         ap (recorded hits) (reaches o (omega (arith, within)))
         ∙ stage-level hits f is time latest going m short wires free o within
 
-    -- and the bus behind them
+    -- and the bus after them
     pub passed-after : (n : ℕ) → n ≤ m → 0 < n →
         bus_after hits n (call_of ports 11 time latest)
         ≡ call_of (map (λ p. port_run p (take n (with_intermission f))) ports) (rest_run 11 (take n (with_intermission f))) (time + n) (aged_by (n - 1) (Some (following latest)))
@@ -128,7 +128,7 @@ module _ (hits : List Hit) (f : Parts) (is : IsFrame f) (ports : List PortState)
 
 -- ---- the hits of a call
 
--- no hit falls in the first of so many bit times, nor in the others
+-- no hit falls in the first of these bit times, nor in the others
 pub free-from : (hits : List Hit) (time : ℕ) (first : Option Attempt) (n : ℕ) → list_any (hits_wire time first) hits ≡ false → ((node : ℕ) → list_any (hits_view time node) hits ≡ false) →
     ((k : ℕ) → suc k < n → list_any (hits_wire ((time + 1) + k) (aged_by (k + 1) first)) hits ≡ false) → ((k node : ℕ) → suc k < n → list_any (hits_view ((time + 1) + k) node) hits ≡ false) →
     IsFreeFrom hits time first n
@@ -159,7 +159,7 @@ second-call hits call now is at within time latest view = record {
 
 -- ---- the levels of the frame
 
--- the stuffed part stands before the last ten of the levels that its sender drives
+-- the stuffed part comes before the last ten of the levels that its transmitter drives
 pub part-of : (f : Parts) (levels : List Level) (n part : ℕ) → n ≤ length levels → take n levels ≡ driven f → part ≡ n - 10 → (take part levels ≡ stuffed_part f) × (part ≡ length (stuffed_part f))
 part-of f levels n part long are less =
     let size : n ≡ length (stuffed_part f) + 10 = sym (length-take-le n levels long) ∙ ap length are ∙ length-append (stuffed_part f) (tail Recessive Recessive) in
@@ -174,7 +174,7 @@ at-taken (x ∷ rec) zero t d less within = absurd (omega (arith, less))
 at-taken (x ∷ rec) (suc n) zero d less within = refl
 at-taken (x ∷ rec) (suc n) (suc t) d less within = at-taken rec n t d (omega (arith, less)) (omega (arith, within))
 
--- The first bit times of a frame, in which no hit falls: what is recorded, and the bus behind them.
+-- The first bit times of a frame, in which no hit falls: what is recorded, and the bus after them.
 module _ (hits : List Hit) (f : Parts) (is : IsFrame f) (ports : List PortState) (rest time : ℕ) (latest : Option Attempt) (rested : rest ≡ 11)
     (got : IsReceived f ports) (valid : AllPorts IsPort ports) (passes : PassesBus f ports)
     (rec : List Level) (count : ℕ) (some : count ≢ 0) (within : count ≤ length rec) (short : count ≤ length (with_intermission f)) (are : take count rec ≡ take count (with_intermission f))

@@ -77,7 +77,7 @@ module _ (f : Parts) (is : IsFrame f) (o : ℕ) (within : o < length (with_inter
   abbrev drive : PortState → Level
   drive p = port_drives (port_run p (take o (with_intermission f)))
 
-  -- the sender, a receiver, and a port that takes no part
+  -- the transmitter, a receiver, and a port that takes no part
   sender : (p : PortState) → PassesFrom f p → drive p ≡ x
   sender p own = run-drives f p (Some f) (enters-from f is p own) o within ∙ ap (λ r. role_drives f r o) (role-own f o)
 
@@ -93,7 +93,7 @@ module _ (f : Parts) (is : IsFrame f) (o : ℕ) (within : o < length (with_inter
   abbrev wire : List PortState → Level
   wire ports = wired (map drive ports)
 
-  -- over the level of the sender this one comes to the same, or to the level of the frame
+  -- over the level of the transmitter this one comes to the same, or to the level of the frame
   abbrev Adds : Level → Type 0
   Adds d = (over x d ≡ x) ⊎ (over x d ≡ l)
 
@@ -127,7 +127,7 @@ module _ (f : Parts) (is : IsFrame f) (o : ℕ) (within : o < length (with_inter
   received (p ∷ ports) valid add (inl here) = one_more x l (drive p) (wire ports) (receiver p valid.0 here) (wire-adds ports add.1)
   received (p ∷ ports) valid add (inr there) = rest_more x l (drive p) (wire ports) add.0 (received ports valid.1 add.1 there)
 
-  -- and the sender's is in it
+  -- and the transmitter's is in it
   sent : (ports : List PortState) → PassesBus f ports → over x (wire ports) ≡ wire ports
   unfolding wired
   sent [] passes = absurd passes
@@ -153,7 +153,7 @@ frame-wires f is ports valid passes got o within =
 
 -- ---- one port after another
 
--- a frame that passes by so many passes by one more
+-- a frame that passes by these ports passes by one more
 passes-step : {X : Type 0} (S : X → PortState) (f : Parts) (xs : List X) (i : ℕ) (d : X) → i < length xs → PassesByAll f (map S (take i xs)) → PassesBy f (S (get_or xs i d)) → PassesByAll f (map S (take (suc i) xs))
 passes-step S f [] i d within before here = absurd (omega (arith, within))
 passes-step S f (x ∷ []) zero d within before here = (here, tt)
@@ -204,7 +204,7 @@ bus-may f [] passes = tt
 bus-may f (p ∷ ports) (inl one) = (inr (Some f, (one.0, inl refl)), all-may f ports one.1)
 bus-may f (p ∷ ports) (inr one) = (lets-by f p one.0, bus-may f ports one.1)
 
--- f may pass all ports of two lists, one behind the other
+-- f may pass all ports of two lists, one after the other
 may-parts : {X : Type 0} (S : X → PortState) (f : Parts) (xs ys : List X) → MayPassAll f (map S (xs ++ ys)) → MayPassAll f (map S xs) × MayPassAll f (map S ys)
 may-parts S f [] ys may = (tt, may)
 may-parts S f (x ∷ xs) ys may = let more = may-parts S f xs ys may.1 in ((may.0, more.0), more.1)
@@ -217,13 +217,13 @@ rides-to f is p valid (inr lets) (suc o) some within = λ front part.
     let enters : Enters f p lets.0 = record { frame = is; poised = lets.1.0; kept = begins-kept p lets.0 lets.1.0 (IsWaiting-waiting p.queue (AreFrames-from p.queue valid.queued)); behind = lets.1.1 } in
     ap (λ (m : MacState). m.phase) (run-rides f p lets.0 enters o within)
 
--- the same, where these are the levels
+-- the same, if these are the levels
 rides-front : (f : Parts) → IsFrame f → (p q : PortState) → IsPort p → MayPass f p → (front : List Level) → front ≡ take (length front) (with_intermission f) → 0 < length front → length front < length (stuffed_part f) →
     q ≡ port_run p front → HasHeardFirst f (length front) q.mac.phase
 rides-front f is p q valid may front of some within runs =
     subst (λ (state : PortState). HasHeardFirst f (length front) state.mac.phase) (sym (runs ∙ ap (port_run p) of)) (rides-to f is p valid may (length front) some (omega (arith, within, length-with_intermission f)))
 
--- the ports before and behind the sender, and what it has heard
+-- the ports before and after the transmitter, and what it has heard
 pub rides-others : {X : Type 0} (S : X → PortState) (f : Parts) → IsFrame f → (sender : X) → IsPort (S sender) → (xs before behind : List X) → xs ≡ before ++ sender ∷ behind → PassesBus f (map S xs) →
     (front : List Level) → front ≡ take (length front) (with_intermission f) → 0 < length front → length front < length (stuffed_part f) → (q : PortState) → q ≡ port_run (S sender) front →
     MayPassAll f (map S before) × MayPassAll f (map S behind) × HasHeardFirst f (length front) q.mac.phase
@@ -231,7 +231,7 @@ rides-others S f is sender valid xs before behind cut passes front of some withi
     let may = may-parts S f before (sender ∷ behind) (subst (λ ys. MayPassAll f (map S ys)) cut (bus-may f (map S xs) passes)) in
     (may.0, may.1.1, rides-front f is (S sender) q valid may.1.0 front of some within runs)
 
--- a port that receives the frame, among the first of some, or behind them
+-- a port that receives the frame, among the first of some, or after them
 pub received-first : {X : Type 0} (S : X → PortState) (f : Parts) (xs : List X) (n : ℕ) → IsReceived f (map S (take n xs)) → IsReceived f (map S xs)
 received-first S f [] zero got = absurd got
 received-first S f [] (suc n) got = absurd got
@@ -256,7 +256,7 @@ received-at S f (x ∷ xs) (suc n) d within here = inr (received-at S f xs n d (
 pub received-here : {X : Type 0} (S : X → PortState) (f : Parts) (xs : List X) (n : ℕ) (d : X) → n < length xs → Receives f (S (get_or xs n d)) → IsReceived f (map S (take (n + 1) xs))
 received-here S f xs n d within here = rw add-one (received-at S f xs n d within here)
 
--- what may pass all ports may pass the next one, where those before it have changed
+-- what may pass all ports may pass the next one, after those before it have changed
 pub may-next : {X : Type 0} (S : X → PortState) (f : Parts) (F : ℕ → PortState → PortState) (k i : ℕ) (xs : List X) (ps : List PortState) (d : X) → MayPassAll f ps → map S xs ≡ front_at F k i ps → i < length xs →
     MayPass f (S (get_or xs i d))
 may-next S f F k i [] ps d may e within = absurd (omega (arith, within))

@@ -1,4 +1,4 @@
--- What all ports have to send, told port by port, are all frames: those that wait there, and those that are offered.
+-- What all ports have to send, one port after another, are all frames: those that wait there, and those that are offered.
 use Rattle.std.specs.Prelude.{slice_get}
 use Rattle.std.specs.List.Sorted.{IsPermutation}
 use Rattle.std.proofs.Common.{◌≡◌, ℕ, suc, ◌+◌, ◌<◌, ◌≤◌, Some, List, [], ◌∷◌, ◌++◌, length, map, refl, sym, ap, subst, ◌∙◌, arith, inl, inr, append_assoc}
@@ -12,7 +12,7 @@ use Rattle.can_bus.specs.Quiet.{queued}
 use Rattle.can_bus.specs.Timed.{TimedParts, all_offers, offered_first, offered_to, own_offers, timed}
 use Rattle.can_bus.proofs.PlayedRuns.{to-here, to-other}
 
--- what these ports have to send, where the first has this number
+-- what these ports have to send, if the first has this number
 abbrev pub port_offers : List Offer → ℕ → List PortState → List TimedParts
 port_offers offers node [] = []
 port_offers offers node (p ∷ ports) = own_offers offers node p ++ port_offers offers (node + 1) ports
@@ -59,7 +59,7 @@ module _ (offer : Offer) (offers : List Offer) where
             (IsPermutation-middle own (timed offer) rest))
       ]
 
--- each offer names one of so many ports
+-- each offer names one of this many ports
 abbrev NamePorts : ℕ → List Offer → Type 0
 NamePorts ports offers = (n : ℕ) (offer : Offer) → slice_get offers n ≡ Some offer → offer.node < ports
 

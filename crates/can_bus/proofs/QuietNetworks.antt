@@ -1,4 +1,4 @@
--- A quiet call is a repaired one without hits, however long the bus has rested: what its theorem says is told from the network's.
+-- A quiet call is a repaired one without hits, however long the bus has been at rest: its theorem follows from the network's.
 use Rattle.std.proofs.Common.{◌≡◌, ℕ, ◌≤◌, List, [], refl, sym, ap, subst, ◌∙◌, arith}
 use Rattle.can_frame.specs.Parts.{Parts}
 use Rattle.can_node.specs.Ports.{IsPort}

@@ -50,12 +50,12 @@ late_000 : map (lateness frame_000) (16 ∷ 17 ∷ 18 ∷ 40 ∷ 41 ∷ 42 ∷ 4
 unfolding lateness stuffed_part unstuffed stuffed crc_of head arbitration_field bits_of frame_len
 late_000 = refl
 
--- at a stuff bit, and in the check sequence, up to its last bit
+-- at a stuff bit, and in the CRC sequence, up to its last bit
 late_001 : map (lateness frame_001) (19 ∷ 22 ∷ 23 ∷ 31 ∷ 32 ∷ 33 ∷ 34 ∷ 35 ∷ 36 ∷ 37 ∷ []) ≡ 0 ∷ 6 ∷ 2 ∷ 6 ∷ 1 ∷ 4 ∷ 3 ∷ 2 ∷ 1 ∷ 0 ∷ []
 unfolding lateness stuffed_part unstuffed stuffed crc_of head arbitration_field bits_of frame_len
 late_001 = refl
 
--- at a recessive level behind another
+-- at a recessive level after another
 late_123 : lateness frame_123 21 ≡ 5
 unfolding lateness stuffed_part unstuffed stuffed crc_of head arbitration_field bits_of frame_len
 late_123 = refl

@@ -1,4 +1,4 @@
--- The levels of an attempt that is hit, and those of all attempts where none is.
+-- The levels of an attempt that is hit, and those of all attempts without hits.
 use Rattle.std.specs.Prelude.{slice_index_or}
 use Rattle.std.specs.List.{flat_map}
 use Rattle.std.proofs.Common.{◌≡◌, ℕ, zero, suc, ◌+◌, ◌≤◌, Some, List, [], ◌∷◌, ◌++◌, length, take, replicate, refl, sym, ◌∙◌, ap, arith, append_assoc}

@@ -1,4 +1,4 @@
--- A call with hits that are repaired is a network to which nothing is offered: what its theorem says is told from the network's.
+-- A repaired call is a network to which nothing is offered: its theorem follows from the network's.
 use Rattle.std.specs.Prelude.{slice_get}
 use Rattle.std.proofs.Common.{◌≡◌, ℕ, ◌+◌, ◌≤◌, Some, None, List, [], ◌++◌, length, take, sym, ap, subst, ◌∙◌, arith, inl, inr}
 use Rattle.std.proofs.lemmas.List.{append-nil, length-map}

@@ -51,7 +51,7 @@ one_late-levels : levels late_starts 103 ≡ wire_001 ++ (ones 3 ++ (wire_000 ++
 unfolding course_at stuffed_part unstuffed stuffed crc_of head arbitration_field bits_of
 one_late-levels = refl
 
--- ---- offered in the last bit time of an intermission, and right behind it: the one that goes before the other starts
+-- ---- offered in the last bit time of an intermission, and right after it: of two frames the one with higher priority starts
 
 abbrev two_late : List TimedParts
 two_late = at 0 frame_001 ∷ at 49 frame_009 ∷ at 50 frame_000 ∷ []
@@ -67,8 +67,8 @@ two_behind-levels : levels two_late_starts 155 ≡ wire_001 ++ (ones 3 ++ (wire_
 unfolding course_at stuffed_part unstuffed stuffed crc_of head arbitration_field bits_of
 two_behind-levels = refl
 
--- `S 009 D 0` waits 54 bit times: 1 is left of the intermission as it is offered, and 53 are those of the frame that starts meanwhile. Its
--- bound is 104, since the frame that was on the wire goes before it too, and was offered before it starts.
+-- `S 009 D 0` waits 54 bit times: 1 is left of the intermission when it is offered, and 53 are those of the frame that starts in between.
+-- Its bound is 104, because the frame that was on the bus has higher priority too, and was offered before it starts.
 left_over : left_at 49 two_late_starts ≡ 1
 unfolding stuffed_part unstuffed stuffed crc_of head arbitration_field bits_of
 left_over = refl

@@ -1,4 +1,4 @@
--- Offers to the port that sends a frame: its queue has room for all that are due before the frame's end.
+-- Offers to the port that sends a frame: its queue has capacity for all that are due before the frame's end.
 use Rattle.std.specs.Prelude.{if◌then◌else◌, nat_lt, slice_get}
 use Rattle.std.proofs.Common.{◌≡◌, ◌≢◌, ℕ, zero, suc, ◌+◌, ◌<◌, ◌≤◌, ◌==◌, Bool, true, false, Some, List, [], ◌∷◌, ◌++◌, drop, length, map, refl, sym, ap, subst, ◌∙◌, arith, inl, inr}
 use Rattle.std.proofs.lemmas.Bool.{cases_eq, cases_order, cond-false, cond-true, cond_both, eq-eqb, lt-ltb, le-ltb, ne_eqb}
@@ -103,7 +103,7 @@ module _ (s end : ℕ) where
       never false = refl
   none-due (offer ∷ offers) (suc next) late = none-due offers next (λ n o from at. late (suc n) o (omega (arith, from)) at)
 
--- ---- room
+-- ---- space
 
 pub room-less : (s n m k : ℕ) (ports : List PortState) → m ≤ n → HasRoom s n k ports → HasRoom s m k ports
 room-less s n m k [] less room = tt
@@ -189,7 +189,7 @@ module _ (s : ℕ) where
       let less = run-no-longer levels p in
       ((λ here. let fits : length p.queue + n ≤ p.queue_room = room.0 here in omega (arith, fits, less.shorter, less.room)), run-room n (k + 1) levels ports room.1)
 
-  -- no offer is refused where there is room
+  -- no offer is refused if there is space
   pub not-full : (j k : ℕ) (ports : List PortState) → k + j ≡ s → HasRoom s 1 k ports → is_full j ports ≡ false
   not-full j k [] at room = refl
   not-full zero k (p ∷ ports) at room = let fits : length p.queue + 1 ≤ p.queue_room = room.0 (omega (arith, at)) in grind (arith, nat_tests)

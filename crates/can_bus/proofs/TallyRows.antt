@@ -68,7 +68,7 @@ bound_of_second : repaired_span (frame_000 ∷ frame_001 ∷ []) (In 1 19 ∷ []
 unfolding arbitration_field bits_of crc_of head unstuffed stuffed stuffed_part span
 bound_of_second = refl
 
--- a hit behind the ACK slot
+-- a hit after the ACK slot
 sender_at_48 : tally (frame_000 ∷ []) (frame_000 ∷ []) (In 0 48 ∷ []) ≡ counts 7 0
 unfolding repaired_course lateness arbitration_field bits_of crc_of head unstuffed stuffed stuffed_part
 sender_at_48 = refl

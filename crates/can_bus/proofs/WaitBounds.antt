@@ -30,7 +30,7 @@ use Rattle.can_bus.proofs.QuietLogs.{other-test}
 
 -- ---- a schedule is a course without hits
 
--- no other offer of its field stands before an offer
+-- no other offer of its field comes before an offer
 none-before : (offers : List TimedParts) (n : ℕ) (x : TimedParts) → AllDiffer offers → slice_get offers n ≡ Some x → of_field x.frame (take n offers) ≡ []
 none-before [] n x apart at = absurd (let h : None ≡ Some x = at in cc)
 none-before (y ∷ offers) zero x apart at = refl
@@ -75,7 +75,7 @@ none-left : (f : Parts) (course : List Transmission) (offers : List TimedParts) 
 none-left f [] offers none = none
 none-left f (s ∷ course) offers none = none-left f course (left_by s.frame s.hit offers) (none-by f s.frame s.hit offers none)
 
--- where no two offers have one field, what goes before one is of those that go before it in arbitration
+-- if no two offers have one field, what goes before one is of those with higher priority
 module _ (offers : List TimedParts) (course : List Transmission) (place t : ℕ) (offer : TimedParts) (different : AreDifferent (frames_of offers)) (at : slice_get offers place ≡ Some offer) where
   abbrev going : List TimedParts
   going = going_before offers course place offer t
@@ -150,7 +150,7 @@ longest-busy f is = omega (arith, length-wire-le f is, longest-format f.id.exten
 longest-standard : (f : Parts) → IsFrame f × (f.id.extended ≡ false) → busy_time f ≤ 135
 longest-standard f is = omega (arith, length-wire-le f is.0, cond-false {A = ℕ} f.id.extended 157 132 is.1)
 
--- ---- where nothing starts at a time
+-- ---- if nothing starts at a time
 
 -- what starts between it and a start keeps the bus for less than the time between
 kept-less : {hits : List Hit} {number free : ℕ} {left : List TimedParts} {course : List Transmission} → IsCourse hits number free left course → (from : ℕ) → ((z : Transmission) → IsMade course z → z.time ≢ from) →
@@ -177,7 +177,7 @@ kept-less (attempted number free time f hit left course is told window rest) fro
       ]
     ]
 
--- ---- the wait, told from a schedule
+-- ---- the wait, from a schedule
 
 module _ (offers starts : List TimedParts) (is : IsScheduleOf offers starts) (offer start : TimedParts) (at : StartsAt offers starts offer start) where
   apart : AllDiffer offers
@@ -256,7 +256,7 @@ module _ (offers starts : List TimedParts) (is : IsScheduleOf offers starts) (of
       start.time ≤ offer.time + 134 + 135 * length (starts_between offer.time start.time starts)
   longest_standard frames = let most = wait-le 134 (λ x s. longest-standard x.frame (frames x s)) in omega arith
 
-  -- where the bus is free none that starts meanwhile starts right then
+  -- if the bus is free none of those that start in between starts right then
   pub at_once : FindsFree offers starts offer → start.time ≡ offer.time
   at_once found = elim (cases_lt offer.time start.time) [
     | inr early ↦ (let wait = exact in omega arith)

@@ -108,7 +108,7 @@ module _ (hits : List Hit) (before : ℕ) (wired recorded : List Level) where
     levels-recorded t within =
         inverted-tells (is_struck hits (wire_at t) (level_then wired t)) (level_then wired t) (level_then recorded t) (struck_at t (wire_at t) (stands-own t (omega (arith, within)))) (owns t within)
 
-    -- how long it has rested behind them
+    -- for how long it has been recessive after them
     pub rest-behind : (wire_after hits wired (length recorded) (wire_begun before)).rest ≡ min (rest_before before recorded (length recorded)) 11
     rest-behind = (stands-own (length recorded) (omega arith)).rest
 

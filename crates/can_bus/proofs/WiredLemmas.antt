@@ -55,7 +55,7 @@ wired_more drive xs i d h =
     ap (λ ys. wired (map drive ys)) (take_more xs i d h) ∙ ap wired (map-append drive (take i xs) (x ∷ []))
     ∙ wired-append (map drive (take i xs)) (drive x ∷ []) ∙ over_last (wired (map drive (take i xs))) (drive x)
 
--- one port more of a walk, each port of which is changed in its place and answers what it drives
+-- one more port of a walk, each port of which is changed in place and returns what it drives
 pub wired-turned : {X Y : Type 0} (drive : Y → Level) (f : X → Y) (xs : List X) (i : ℕ) (y : X) (x before after : Level) → i < length xs →
     before ≡ wired (map drive (map f (take i xs))) → x ≡ drive (f y) → after ≡ over x before → after ≡ wired (map drive (map f (take (i + 1) (set xs i y))))
 unfolding wired

@@ -1,5 +1,4 @@
--- A disturbed run to whose ports frames are offered meanwhile, said of whole lists of levels: those on the wire, those recorded, and those
--- that each port saw. (docs/BUS.md, "Runs")
+-- A run with offers and hits, in terms of whole lists of levels: wired, recorded, and those that each port samples. (docs/BUS.md, "Runs")
 use Rattle.std.specs.Prelude.{ℕ, ◌≡◌, ◌↔◌, ◌+◌, ◌<◌, ◌==◌, min, nat_lt, Bool, ◌&&◌, if◌then◌else◌, List, [], ◌∷◌, ◌++◌, All, length, map, slice_get, take, Some}
 use Rattle.std.specs.List.{Any, Contains}
 use Rattle.can_frame.specs.declared.level.Level.{Level}
@@ -14,46 +13,46 @@ use Rattle.can_bus.specs.Offers.{is_full}
 use Rattle.can_bus.specs.Run.{BusState}
 use Rattle.can_bus.specs.Wired.{wired as wired_of}
 
--- the port of this number, with what it is offered at time t
+-- the port with this number, after its offers of time t
 abbrev pub given : List Offer → ℕ → ℕ → PortState → PortState
 given [] t node p = p
 given (offer ∷ offers) t node p = given offers t node (if (offer.time == t) && (offer.node == node) then with_offer offer.frame p else p)
 
--- the same port, from time t on, after it has seen these levels: before each it is given what it is offered
+-- the same port, from time t on, after it has sampled these levels: before each, its offers are made
 abbrev pub port_played : List Offer → ℕ → ℕ → PortState → List Level → PortState
 port_played offers t node p [] = p
 port_played offers t node p (x ∷ levels) = port_played offers (t + 1) node (port_step (given offers t node p) x) levels
 
--- each port, of which the first has this number, with what it is offered at time t
+-- each port after its offers of time t; `node` is the number of the first
 abbrev pub all_given : List Offer → ℕ → ℕ → List PortState → List PortState
 all_given offers t node [] = []
 all_given offers t node (p ∷ ports) = given offers t node p ∷ all_given offers t (node + 1) ports
 
--- each of them, after the first t of the levels that it saw
+-- each port after the first t of the levels that it samples
 abbrev pub played_then : List Offer → ℕ → ℕ → List PortState → List (List Level) → List PortState
 played_then offers t node [] seen = []
 played_then offers t node (p ∷ ports) [] = []
 played_then offers t node (p ∷ ports) (levels ∷ seen) = port_played offers 0 node p (take t levels) ∷ played_then offers t (node + 1) ports seen
 
--- of a run of so many bit times, over the levels that its ports saw
+-- for a run of this many bit times, and the levels that its ports sample
 module _ (offers : List Offer) (ports : List PortState) (seen : List (List Level)) (bits : ℕ) where
-  -- an offer is refused that stands right behind these: it is made, and the queue of its port is full by then, with what these put in it
+  -- the offer after these is refused: it is made, and the queue of its port is full after the earlier ones
   abbrev pub is_refused : List Offer → Offer → Bool
   is_refused earlier offer = nat_lt offer.time bits && is_full offer.node (all_given earlier offer.time 0 (played_then offers offer.time 0 ports seen))
 
-  -- how many of those are that stand behind them, one after another
+  -- the number of refused offers among these, one after another
   abbrev pub refusals : List Offer → List Offer → ℕ
   refusals earlier [] = 0
   refusals earlier (offer ∷ later) = (if is_refused earlier offer then 1 else 0) + refusals (earlier ++ offer ∷ []) later
 
--- A run of a bus from one state to another with these offers and under these hits, by its lists of levels. Each has one level for each
--- bit time, and each port has one list.
--- `drives`: the wired level at each time is that of what the ports drive, each after the levels that it has seen, with what it is offered.
--- `records`: the recorded level is the opposite of the wired one exactly at those times at which a hit falls on the wire.
--- `sees`: a port sees the opposite of the recorded level exactly at those times at which a `View` names it.
--- `leads`: each port goes from its state through what it was offered and the levels that it saw.
--- `keeps_rest`: the bus keeps how many recessive levels were recorded last, up to eleven.
--- `refuses`: so many of the offers find a full queue.
+-- A run of a bus from one state to another with these offers and hits, in terms of its lists of levels. Each list has one level for each
+-- bit time, and each port has a list.
+-- - `drives`: the wired level at each time is that of what the ports drive, after the levels that they have sampled and their offers.
+-- - `records`: the recorded level is the opposite of the wired one exactly at the times at which a hit falls on the bus line.
+-- - `sees`: a port samples the opposite of the recorded level exactly at the times of the `View`s that name it.
+-- - `leads`: the final state of each port follows from its offers and the levels that it samples.
+-- - `keeps_rest`: the bus keeps the number of recessive levels recorded last, at most eleven.
+-- - `refuses`: this many offers find a full queue.
 pub record IsDisturbedPlay (offers : List Offer) (hits : List Hit) (before : BusState) (wired recorded : List Level) (seen : List (List Level)) (after : BusState) (refused : ℕ) : Type 0 where
   pub long : length wired ≡ length recorded
   pub seen_long : All (λ levels. length levels ≡ length recorded) seen
@@ -67,12 +66,12 @@ pub record IsDisturbedPlay (offers : List Offer) (hits : List Hit) (before : Bus
   pub keeps_rest : after.rest ≡ min (rest_before before.rest recorded (length recorded)) idle_row
   pub refuses : refused ≡ refusals offers before.ports seen (length recorded) [] offers
 
--- there are levels on the wire, and levels that the ports saw, with which these recorded ones are such a run
+-- there are wired levels, and levels that the ports sample, with which these recorded levels are such a run
 abbrev pub WasPlayed : List Offer → List Hit → BusState → List Level → BusState → ℕ → Type 0
 WasPlayed offers hits before recorded after refused =
     (wired : List Level) × (seen : List (List Level)) × IsDisturbedPlay offers hits before wired recorded seen after refused
 
--- a run to which nothing is offered
+-- a run without offers
 abbrev pub IsDisturbedRun : List Hit → BusState → List Level → List Level → List (List Level) → BusState → Type 0
 IsDisturbedRun hits before wired recorded seen after = IsDisturbedPlay [] hits before wired recorded seen after 0
 

@@ -1,4 +1,4 @@
--- What is wrong in a list that a call takes. (docs/BUS.md, "Refusals")
+-- What is wrong with a list that a call takes. (docs/BUS.md, "Refusals")
 use Rattle.std.specs.Prelude.{ℕ, ◌≡◌, Bool, false, List, take, Some, slice_get}
 use Rattle.can_hit.specs.declared.hit.Hit.{Hit}
 use Rattle.can_hit.specs.Hits.{hit_names_port, is_above}
@@ -6,9 +6,9 @@ use Rattle.can_hit.specs.Sound.{AreSound, FollowsLast}
 use Rattle.can_bus.specs.declared.fault.BusFault.{BusFault}
 use Rattle.can_bus.specs.declared.fault.BusFault.TheVariants.{NoPort, TooManyPorts, NotRising, NoSuchPort}
 
--- what may stand behind what is said by `follows`, and which ports there are for an item, of so many, by `names`
+-- `follows`: which item may follow which; `names`: of this many ports the item names one, or none
 module _ {A : Type 0} (follows : A → A → Bool) (names : ℕ → A → Bool) where
-  -- what is wrong with the item at this place: its order counts before its port
+  -- what is wrong with the item at this place: its order is checked before its port
   abbrev pub IsWrong : ℕ → List A → ℕ → A → BusFault → Type 0
   IsWrong ports items place item NotRising = FollowsLast follows items place item → ⊥
   IsWrong ports items place item NoSuchPort = FollowsLast follows items place item × (names ports item ≡ false)

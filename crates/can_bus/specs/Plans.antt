@@ -6,7 +6,7 @@ use Rattle.can_mac.specs.State.{idle}
 use Rattle.can_node.specs.Ports.{PortState, fresh_port, all_offered}
 use Rattle.can_bus.specs.Quiet.{AreDifferent}
 
--- what a port is made with: its rooms, and the frames that it is offered, one after another
+-- the plan of a port: its capacities, and the frames that it is offered, one after another
 pub record PlannedPort : Type 0 where
   pub queue_room : ℕ
   pub log_room : ℕ
@@ -20,12 +20,12 @@ ready_port plan = all_offered plan.frames (fresh_port idle plan.queue_room plan.
 abbrev pub planned : List PlannedPort → List Parts
 planned plans = flat_map (λ plan. plan.frames) plans
 
--- the queue has room for what the port is offered, all of which are frames
+-- the queue has capacity for what the port is offered, and these frames are within their limits
 pub record FitsQueue (plan : PlannedPort) : Type 0 where
   pub frames : All IsFrame plan.frames
   pub room : length plan.frames ≤ plan.queue_room
 
--- two to 64 ports, no two of whose frames have one arbitration field, and in each log room for all frames
+-- two to 64 ports; no two frames have the same arbitration field; each log has capacity for all frames
 pub record IsQuietPlan (plans : List PlannedPort) : Type 0 where
   pub two : 2 ≤ length plans
   pub most : length plans ≤ 64

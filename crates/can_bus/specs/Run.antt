@@ -1,6 +1,5 @@
--- The bus, one bit time after another: all ports drive, the levels are wired, a disturbance may invert the
--- wired level, and each port samples what is recorded, or its opposite where it alone is disturbed.
--- (docs/BUS.md, "A bit time", "Attempts" and "Disturbances")
+-- The bus, bit time by bit time: all ports drive, the levels are wired, a hit may invert the wired level, and each port samples the
+-- recorded level, or its opposite if a hit names it. (docs/BUS.md, "A bit time", "Attempts" and "Disturbances")
 use Rattle.std.specs.Prelude.{ℕ, zero, suc, ◌≡◌, ◌+◌, ◌<◌, ◌==◌, min, Bool, false, ◌&&◌, if◌then◌else◌, List, [], ◌∷◌, length, map, Option, Some, None, slice_get}
 use Rattle.std.specs.List.{list_any}
 use Rattle.can_frame.specs.declared.level.Level.{Level}
@@ -13,40 +12,40 @@ use Rattle.can_hit.specs.declared.hit.Hit.TheVariants.{At, In, View}
 use Rattle.can_bus.specs.declared.moment.Attempt.{Attempt}
 use Rattle.can_bus.specs.Wired.{wired}
 
--- a bus: its ports, and how many recessive levels were recorded last in a row, counted up to eleven
+-- a bus: its ports, and the number of recessive levels recorded last in a row, counted up to eleven
 pub record BusState : Type 0 where
   pub ports : List PortState
   pub rest : ℕ
 
--- a bus as it is made, where eleven recessive levels count as recorded last
+-- a new bus: eleven recessive levels count as recorded last
 abbrev pub new_bus : List PortState → BusState
 new_bus ports = record { ports = ports; rest = idle_row }
 
--- how far a call is: the bus, the bit time, and the latest attempt of the call
+-- the progress of a call: the bus, the bit time, and the latest attempt of the call
 pub record CallState : Type 0 where
   pub bus : BusState
   pub time : ℕ
   pub latest : Option Attempt
 
--- a call begins
+-- the start of a call
 abbrev pub call_begun : BusState → CallState
 call_begun bus = record { bus = bus; time = 0; latest = None }
 
--- what the ports drive together
+-- the wired level of the ports
 abbrev pub wired_level : CallState → Level
 wired_level c = wired (map port_drives c.bus.ports)
 
--- an attempt begins at a wired dominant level that follows eleven recessive recorded ones
+-- an attempt begins at a dominant wired level after eleven recessive recorded ones
 abbrev pub begins_attempt : ℕ → Level → Bool
 begins_attempt rest Dominant = rest == idle_row
 begins_attempt rest Recessive = false
 
--- the attempt that begins behind this one
+-- the attempt that begins after this one
 abbrev pub following : Option Attempt → Attempt
 following None = record { number = 0; offset = 0 }
 following (Some a) = record { number = a.number + 1; offset = 0 }
 
--- one bit time later
+-- the attempt one bit time later
 abbrev pub aged : Option Attempt → Option Attempt
 aged None = None
 aged (Some a) = Some (record { number = a.number; offset = a.offset + 1 })
@@ -55,7 +54,7 @@ aged (Some a) = Some (record { number = a.number; offset = a.offset + 1 })
 abbrev pub attempt_now : CallState → Option Attempt
 attempt_now c = if begins_attempt c.bus.rest (wired_level c) then Some (following c.latest) else aged c.latest
 
--- the attempt has this number, and began so many bit times ago
+-- the attempt has this number, and began `offset` bit times ago
 abbrev pub is_attempt : Option Attempt → ℕ → ℕ → Bool
 is_attempt None number offset = false
 is_attempt (Some a) number offset = (a.number == number) && (a.offset == offset)
@@ -66,7 +65,7 @@ hits_wire time attempt (At t) = t == time
 hits_wire time attempt (In number offset) = is_attempt attempt number offset
 hits_wire time attempt (View t node) = false
 
--- the hit inverts what this port sees at this time
+-- the hit inverts what this port samples at this time
 abbrev pub hits_view : ℕ → ℕ → Hit → Bool
 hits_view time port (At t) = false
 hits_view time port (In number offset) = false
@@ -79,13 +78,13 @@ inverted_if hit x = if hit then opposite x else x
 unfoldable pub recorded : List Hit → CallState → Level
 recorded hits c = inverted_if (list_any (hits_wire c.time (attempt_now c)) hits) (wired_level c)
 
--- each port, the first of which has this number, after it has sampled the level
+-- each port after it has sampled the level; `number` is that of the first
 abbrev pub all_sampled : List Hit → ℕ → Level → ℕ → List PortState → List PortState
 all_sampled hits time x number [] = []
 all_sampled hits time x number (p ∷ ports) =
     port_step p (inverted_if (list_any (hits_view time number) hits) x) ∷ all_sampled hits time x (number + 1) ports
 
--- how many recessive levels were recorded last, with this one
+-- the number of recessive levels recorded last, including this one, counted up to eleven
 abbrev pub rest_after : ℕ → Level → ℕ
 rest_after rest Dominant = 0
 rest_after rest Recessive = min (rest + 1) idle_row
@@ -98,16 +97,16 @@ bus_step hits c = record {
   latest = attempt_now c;
 }
 
--- so many bit times
+-- n bit times
 unfoldable pub bus_after : List Hit → ℕ → CallState → CallState
 bus_after hits zero c = c
 bus_after hits (suc n) c = bus_step hits (bus_after hits n c)
 
--- the level that is recorded at time t of a call
+-- the level recorded at time t of a call
 unfoldable pub bus_level : List Hit → ℕ → BusState → Level
 bus_level hits t bus = recorded hits (bus_after hits t (call_begun bus))
 
--- the recorded levels are those of this line, which has one for each time
+-- the recorded levels are those of this function of time
 abbrev pub AreLevelsOf : (ℕ → Level) → List Level → Type 0
 AreLevelsOf line recorded = (t : ℕ) → t < length recorded → slice_get recorded t ≡ Some (line t)
 

@@ -1,4 +1,4 @@
--- The same, a number of bit times later: offers, hits, and the attempts of a course. (docs/BUS.md, "The course")
+-- Offers, hits and attempts, d bit times later. (docs/BUS.md, "The course")
 use Rattle.std.specs.Prelude.{ℕ, ◌≡◌, ◌+◌, List, map, slice_get, Some}
 use Rattle.can_frame.specs.IdleRow.{idle_row}
 use Rattle.can_node.specs.Ports.{PortState, IsAtRest}
@@ -16,21 +16,21 @@ frame_later d x = record { time = d + x.time; frame = x.frame }
 abbrev pub frames_later : ℕ → List TimedParts → List TimedParts
 frames_later d timed = map (frame_later d) timed
 
--- an attempt that starts d bit times later; if it is hit, the same of its levels is hit
+-- an attempt that starts d bit times later; the same of its levels is hit, if one is
 abbrev pub attempt_later : ℕ → Transmission → Transmission
 attempt_later d s = record { time = d + s.time; frame = s.frame; hit = s.hit }
 
 abbrev pub attempts_later : ℕ → List Transmission → List Transmission
 attempts_later d course = map (attempt_later d) course
 
--- an offer to a port that is made d bit times later
+-- an offer to a port d bit times later
 abbrev pub offer_later : ℕ → Offer → Offer
 offer_later d offer = record { time = d + offer.time; node = offer.node; frame = offer.frame }
 
 abbrev pub offers_later : ℕ → List Offer → List Offer
 offers_later d offers = map (offer_later d) offers
 
--- a hit d bit times later; one in an attempt has no time of its own
+-- a hit d bit times later; an `In` has no time of its own
 abbrev pub hit_later : ℕ → Hit → Hit
 hit_later d (At time) = At (d + time)
 hit_later d (In attempt offset) = In attempt offset

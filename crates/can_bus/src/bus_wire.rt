@@ -1,4 +1,4 @@
-//! A wire, bit time by bit time, whoever drives it.
+//! The bus line, bit time by bit time, for controllers of any kind.
 ghost use Rattle.std.specs.Prelude.{◌≡◌, ◌<◌, ◌≤◌, ◌^◌, ◌-◌, ◌↔◌, IfSome, IsSome, IsTrue};
 ghost use Rattle.std.specs.List.{list_any};
 ghost use Rattle.can_bus.specs.Run.{hits_view as hits_view_of, hits_wire as hits_wire_of, inverted_if as inverted_if_of};
@@ -11,8 +11,8 @@ use can_frame::{IDLE_ROW, Level};
 use can_hit::Hit;
 use std::marker::Model;
 
-/// A wire between two bit times: how many have passed, the latest attempt, and how many recessive levels it had last in
-/// a row. Whoever drives it, controllers of any kind, it has the levels of a bus.
+/// A bus line between two bit times: how many have passed, the latest attempt, and how many recessive levels were
+/// last in a row. It has the levels of a bus, whatever controllers drive it.
 #[derive(Clone, Copy, Debug)]
 pub struct Wire {
     rest: u8,
@@ -32,17 +32,17 @@ impl Model for Wire {
     ghost inverse = { λ v. record { rest = v.rest; time = v.time; latest = v.latest } };
 }
 
-/// A bit time of a wire.
+/// A bit time of the bus line.
 #[derive(Clone, Copy, Debug)]
 pub struct Moment {
-    /// How many bit times lie before it.
+    /// The number of bit times before it.
     pub time: u64,
     /// The latest attempt in it.
     pub attempt: Option<Attempt>,
 }
 
 impl Moment {
-    /// Whether the hit inverts the level of the wire in it.
+    /// Whether the hit inverts the level of the bus line in this bit time.
     pub fn hits_wire(&self, hit: Hit) -> bool
         ensures { result ≡ hits_wire_of self.now.time self.now.attempt hit }
     {
@@ -56,14 +56,14 @@ impl Moment {
         }
     }
 
-    /// Whether one of these does.
+    /// Whether one of these hits does.
     fn is_hit(&self, hits: &[Hit]) -> bool
         ensures { result ≡ list_any (hits_wire_of self.now.time self.now.attempt) hits.now }
     {
         hits.iter().any(|hit| self.hits_wire(*hit))
     }
 
-    /// Whether the hit inverts what who has this number sees in it.
+    /// Whether the hit inverts what the node with this number samples in this bit time.
     pub fn hits_view(&self, number: usize, hit: Hit) -> bool
         ensures { result ≡ hits_view_of self.now.time number hit }
     {
@@ -75,7 +75,7 @@ impl Moment {
 }
 
 impl Wire {
-    /// A wire before its first bit time. It counts as recessive for eleven bit times.
+    /// A bus line before its first bit time. It counts as recessive for eleven bit times.
     pub fn new() -> Wire
         ensures { result ≡ wire_begun 11 }
     {
@@ -86,9 +86,9 @@ impl Wire {
         }
     }
 
-    /// The wire that had so many recessive levels last, up to eleven, in bit time `time`, with the latest attempt of the bit
-    /// time before. None where no wire comes to that: an attempt has not gone on for longer than the wire, and each has
-    /// begun in a bit time of its own.
+    /// A bus line that had `rest` recessive levels last, at most eleven, in bit time `time`, with the latest attempt
+    /// of the bit time before. It returns `None` if no bus line can reach this state: an attempt cannot have lasted
+    /// longer than the bus line, and each began in a bit time of its own.
     pub fn at(rest: u8, time: u64, latest: Option<Attempt>) -> Option<Wire>
         ensures made { IsSome result ↔ IsWire (record { rest = rest; time = time; latest = latest }) }
         ensures wire { IfSome result (λ wire. wire ≡ record { rest = rest; time = time; latest = latest }) }
@@ -99,7 +99,7 @@ impl Wire {
         Some(Wire { rest, time, latest })
     }
 
-    /// How many recessive levels it had last in a row, counted up to eleven.
+    /// The number of recessive levels last in a row, counted up to eleven.
     pub fn rest(&self) -> u8
         ensures value { result ≡ self.now.rest }
         ensures range { result ≤ 11 }
@@ -107,14 +107,14 @@ impl Wire {
         self.rest
     }
 
-    /// How many bit times have passed.
+    /// The number of bit times that have passed.
     pub fn time(&self) -> u64
         ensures { result ≡ self.now.time }
     {
         self.time
     }
 
-    /// The latest attempt, as it was in the bit time before.
+    /// The latest attempt, as of the bit time before.
     pub fn latest(&self) -> Option<Attempt>
         ensures value { result ≡ self.now.latest }
         ensures range { IsWire self.now }
@@ -122,7 +122,7 @@ impl Wire {
         self.latest
     }
 
-    /// The bit time that is to come, if it is driven so.
+    /// The next bit time, if this level is driven in it.
     pub fn moment(&self, driven: Level) -> Moment
         requires time { self.now.time < 2 ^ 64 - 1 }
         ensures { result ≡ record { time = self.now.time; attempt = wire_attempt self.now driven } }
@@ -133,7 +133,7 @@ impl Wire {
         }
     }
 
-    /// One bit time, in which it is driven so and inverted where it is hit, and its level in it.
+    /// Runs one bit time, in which this level is driven, and inverted if `hit`. Returns the level of the bus line.
     pub fn pass(&mut self, driven: Level, hit: bool) -> Level
         requires time { self.old.time < 2 ^ 64 - 1 }
         ensures level { result ≡ inverted_if_of hit driven }
@@ -146,8 +146,9 @@ impl Wire {
         level
     }
 
-    /// One bit time, in which it is driven so, and its level in it: the opposite one where a hit falls on it. The hits may
-    /// stand in any order, and others in each bit time. Its work is in proportion to them; it takes no memory.
+    /// Runs one bit time, in which this level is driven, and returns the level of the bus line: the opposite one if a
+    /// hit falls on it. The hits may be in any order, and others in each bit time. Its work is proportional to them;
+    /// it allocates no memory.
     pub fn level(&mut self, driven: Level, hits: &[Hit]) -> Level
         requires time { self.old.time < 2 ^ 64 - 1 }
         ensures level { result ≡ wire_level hits.now self.old driven }
@@ -158,7 +159,7 @@ impl Wire {
     }
 }
 
-/// Whether a wire can have had this latest attempt by this time.
+/// Whether a bus line can have had this latest attempt by this time.
 fn has_come(latest: Option<Attempt>, time: u64) -> bool
     ensures { IsTrue result ↔ IsPassed latest time }
 {

@@ -7,8 +7,7 @@ use crate::cursor::Cursor;
 use crate::moment::{Attempt, following};
 use can_hit::Hit;
 
-/// How far a call is: the bit time, the latest attempt, and how far the hits of each kind
-/// have been passed.
+/// The progress of a call: the bit time, the latest attempt, and how many hits of each kind have been passed.
 #[derive(Clone, Copy)]
 pub(crate) struct Call {
     pub(crate) time: u64,
@@ -19,7 +18,7 @@ pub(crate) struct Call {
 }
 
 impl Call {
-    /// A call begins.
+    /// The progress at the start of a call.
     pub(crate) fn new() -> Call
         ensures { result ≡ first_call }
     {
@@ -33,7 +32,7 @@ impl Call {
         }
     }
 
-    /// Whether a hit falls on the wired level in this bit time, in which this is the latest attempt.
+    /// Whether a hit falls on the wired level in this bit time, of which `latest` is the latest attempt.
     pub(crate) fn hits_wire(&mut self, hits: &[Hit]) -> bool
         requires rising { HitsRise hits.now }
         requires at { AreBelow hits.now self.old.at.place (Hit.At self.old.time) }
@@ -59,8 +58,8 @@ impl Call {
         by_time || by_attempt
     }
 
-    /// How many bit times from this one on no hit falls in while no attempt begins, `most` at most. It may be fewer
-    /// where a hit has just passed.
+    /// The number of bit times from this one on in which no hit falls if no attempt begins, at most `most`. It may be
+    /// fewer right after a hit.
     #[inline(never)]
     pub(crate) fn undisturbed(&self, hits: &[Hit], most: usize) -> usize
         requires rising { HitsRise hits.now }
@@ -76,8 +75,8 @@ impl Call {
         at.min(within).min(view).min(most as u64) as usize
     }
 
-    /// The call behind so many bit times, in the first of which an attempt begins, and no other later; none where a hit
-    /// falls in them, or may fall.
+    /// The progress after `count` bit times, if an attempt begins in the first of them and no other follows; `None`
+    /// if a hit falls in them, or may fall.
     pub(crate) fn behind(&self, hits: &[Hit], count: usize) -> Option<Call>
         requires rising { HitsRise hits.now }
         requires call { IsCall hits.now self.now }
@@ -95,9 +94,8 @@ impl Call {
         Some(later)
     }
 
-    /// The call behind the bit times, `most` at most, up to the next in which a hit falls, where an attempt begins in the
-    /// first of them, and no other later; none where a hit falls in the first, or may fall. They may be fewer where a hit
-    /// has just passed.
+    /// The progress just before the next hit, or after `most` bit times, if an attempt begins in the first of them
+    /// and no other follows; `None` if a hit falls in the first, or may fall. They may be fewer right after a hit.
     pub(crate) fn up_to_hit(&self, hits: &[Hit], most: usize) -> Option<Call>
         requires rising { HitsRise hits.now }
         requires call { IsCall hits.now self.now }
@@ -123,7 +121,7 @@ impl Call {
         Some(later)
     }
 
-    /// So many bit times pass in which no attempt begins.
+    /// Passes `count` bit times in which no attempt begins.
     pub(crate) fn pass(&mut self, count: usize)
         requires passed { IsPassed self.old.latest self.old.time }
         requires time { self.old.time + count < 2 ^ 64 }
@@ -144,7 +142,7 @@ impl Call {
     }
 }
 
-/// How many bit times pass before the wired level is hit at its time, where this hit is the next of a walk.
+/// The number of bit times before an `At` inverts the wired level, if this is the next hit at its cursor.
 fn until_at(next: Option<Hit>, time: u64) -> u64
     ensures { result ≡ until_at_of time next }
 {
@@ -156,8 +154,8 @@ fn until_at(next: Option<Hit>, time: u64) -> u64
     }
 }
 
-/// How many bit times pass before the latest attempt is hit, if no later one begins. A hit on an earlier attempt has yet
-/// to be passed.
+/// The number of bit times before the latest attempt is hit, if no later one begins. It is 0 if a hit of an earlier
+/// attempt has yet to be passed.
 fn until_in(next: Option<Hit>, latest: Option<Attempt>) -> u64
     requires { IsPassed latest (2 ^ 64 - 1) }
     ensures { result ≡ until_in_of latest next }
@@ -181,7 +179,7 @@ fn until_in(next: Option<Hit>, latest: Option<Attempt>) -> u64
     }
 }
 
-/// How many bit times pass before what a port sees is hit.
+/// The number of bit times before a hit on what a port samples, if this is the next hit at its cursor.
 fn until_view(next: Option<Hit>, time: u64) -> u64
     ensures { result ≡ until_view_of time next }
 {

@@ -10,22 +10,22 @@ use crate::fault::BusFault;
 use crate::offer::Offer;
 use can_hit::Hit;
 
-/// What a call of a bus takes in a list.
+/// An item of a list that a call of a bus takes.
 trait Input: Copy {
-    /// Which may stand behind which.
+    /// Which item may follow which.
     ghost follows: { Self → Self → Bool };
 
-    /// What is known of each.
+    /// What is known of each item.
     ghost IsKnown: { Self → Type 0 };
 
-    /// Of so many ports it names one, if it names any.
+    /// Whether the item names one of this many ports, or names none.
     ghost names: { ℕ → Self → Bool };
 
-    /// Whether it may stand behind this one.
+    /// Whether it may follow this item.
     fn may_follow(self, last: Self) -> bool
         ensures { result ≡ follows self last };
 
-    /// Of so many ports it names one, if it names any.
+    /// Whether it names one of this many ports, or names none.
     fn names_port(self, ports: usize) -> bool
         ensures answer { result ≡ names ports self }
         ensures known { IsKnown self };
@@ -62,13 +62,13 @@ impl Input for Offer {
     }
 
     fn names_port(self, ports: usize) -> bool {
-        // who reads a frame's bytes knows that it is a frame
+        // reading the bytes of a frame shows the prover that it is within its limits
         let _bytes = self.frame.bytes();
         self.node < ports
     }
 }
 
-/// Whether the input at this place may stand behind the one before it.
+/// Whether the item at this place may follow the one before it.
 fn follows_last<I: Input>(inputs: &[I], place: usize) -> bool
     requires { place < length inputs.now }
     ensures { (input : I) → slice_get inputs.now place ≡ Some input → IsTrue result ↔ FollowsLast I.follows inputs.now place input }
@@ -76,7 +76,7 @@ fn follows_last<I: Input>(inputs: &[I], place: usize) -> bool
     place == 0 || inputs[place].may_follow(inputs[place - 1])
 }
 
-/// Checks the order of the inputs, and that each names one of so many ports, if it names any.
+/// Checks the order of the items, and the ports that they name.
 fn check<I: Input>(inputs: &[I], ports: usize) -> Result<(), BusFault>
     ensures taken { IsOk result ↔ AreSound I.follows I.names ports inputs.now }
     ensures fault { IfErr result (λ fault. IsFirstWrong I.follows I.names ports inputs.now fault) }

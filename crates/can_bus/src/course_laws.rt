@@ -1,4 +1,4 @@
-//! Laws of the course, each a function that does nothing and ensures it.
+//! Laws of the course: functions that do nothing and ensure the law.
 ghost use Rattle.std.specs.Prelude.{◌≡◌, ◌+◌, ◌<◌, ◌≤◌, ◌⊎◌, ℕ, List, [], length, slice_get, None, Some};
 ghost use Rattle.can_frame.specs.Arbitration.{Before, arbitration_field};
 ghost use Rattle.can_frame.specs.Parts.{IsFrame};
@@ -14,32 +14,34 @@ ghost use Rattle.can_bus.specs.Repair.{FallInWindows, repaired_course};
 ghost use Rattle.can_bus.specs.Shifts.{attempts_later, frames_later};
 ghost use Rattle.can_bus.specs.Timed.{AreAtOnce, TimedParts, frames_of, all_offers};
 
-/// Offers and hits have one course at most. It is the one that is computed, if in that one each attempt that is hit
-/// is so in the window of its frame.
+/// Offers and hits have at most one course. It is the computed one, if there each hit falls in the window of the
+/// frame of its attempt.
 pub fn one_course()
     ensures exists { (hits : List Disturbance) (offers : List TimedParts) → HitInWindows (course_of hits offers) → IsCourse hits 0 0 offers (course_of hits offers) }
     ensures only { (hits : List Disturbance) (offers : List TimedParts) (course : List Transmission) → IsCourse hits 0 0 offers course →
         (course ≡ course_of hits offers) × HitInWindows course }
 {}
 
-/// Where nothing is hit, and no two offers have one arbitration field, the course is the schedule that is computed.
+/// Without hits, and if no two offers have the same arbitration field, the course is the computed schedule.
 pub fn a_course_without_hits_is_a_schedule()
     ensures { (offers : List TimedParts) (course : List Transmission) → AreDifferent (frames_of offers) → IsCourse [] 0 0 offers course → course ≡ unhit (schedule offers) }
 {}
 
-/// Where all frames are offered at time 0, no two of one arbitration field, the attempts of the course send those of the ascending
-/// list one after another, each as often as it is hit and once more.
+/// If all frames are offered at time 0, no two with the same arbitration field, the attempts send them in priority
+/// order. Each frame has one attempt for each of its hits, and one more.
 pub fn a_course_at_once_ascends()
     ensures { (hits : List Disturbance) (offers : List TimedParts) → AreDifferent (frames_of offers) → AreAtOnce offers → FallInWindows (ascending (frames_of offers)) hits →
         (course : List Transmission) → IsCourse hits 0 0 offers course → course ≡ repaired_course (ascending (frames_of offers)) hits }
 {}
 
-/// Each frame that is offered to a network is sent, by one attempt: when what is left, as it is offered, of the attempt on the
-/// wire is over, and each attempt that starts meanwhile. Each of these wins arbitration against it, or sends a frame of its own
-/// field. So it waits no longer than the frames take that go before it and are offered before it starts, and the attempts
-/// that are hit meanwhile. An attempt that is hit keeps the bus for at most thirteen bit times more than its frame and intermission.
-/// Without hits the terms are those of `waiting_is_bounded`; and where no two offers have one field, no more frames go before one, and
-/// for no longer, than win arbitration against it and are offered before it starts.
+/// Each frame that is offered to a network is sent by exactly one attempt. It starts when the rest of the attempt on
+/// the bus is over, and each attempt that starts in between. Each of these has higher priority, or sends a frame of
+/// its arbitration field.
+///
+/// So a frame waits at most for the rest, for the frames that go before it and are offered before it starts, and for
+/// the attempts that are hit in between. An attempt that is hit keeps the bus at most thirteen bit times longer than
+/// its frame and intermission. Without hits the terms are those of `waiting_is_bounded`. If no two offers have the
+/// same field, only higher-priority frames offered before its start go before it, and for no longer than these take.
 pub fn waiting_on_a_network_is_bounded()
     ensures in_time { (offers : List Offer) (ports : List PortState) → AreOffered (length ports) offers → AreInTime (all_offers offers ports) }
     ensures sent { (hits : List Disturbance) (offers : List TimedParts) (course : List Transmission) → IsCourse hits 0 0 offers course →
@@ -61,8 +63,8 @@ pub fn waiting_on_a_network_is_bounded()
         (s : Transmission) → IsMade course s → IsFrame s.frame → keeping s.frame s.hit ≤ busy_time s.frame + 13 }
 {}
 
-/// A course that is shifted in time is a course: if each frame is offered d bit times later, each attempt starts d bit times later, sends
-/// the same frame, and is hit on the same of its levels.
+/// A course can be shifted in time. If each frame is offered d bit times later, each attempt starts d bit times
+/// later, with the same frame, and the same of its levels is hit.
 pub fn a_course_can_be_shifted()
     ensures { (d : ℕ) (hits : List Disturbance) (offers : List TimedParts) (course : List Transmission) → IsCourse hits 0 0 offers course →
         IsCourse hits 0 0 (frames_later d offers) (attempts_later d course) }

@@ -5,21 +5,21 @@ ghost use Rattle.can_bus.specs.Walks.{AreBelow, HitsRise, is_hit, until_view};
 use can_hit::Hit;
 use std::cmp::Ordering;
 
-/// A place in a list of hits, which is walked in its order.
+/// A place in a list of hits, for a walk in their order.
 #[derive(Clone, Copy)]
 pub(crate) struct Cursor {
     pub(crate) place: usize,
 }
 
 impl Cursor {
-    /// The first hit that isn't passed.
+    /// The first hit that has not been passed.
     pub(crate) fn next(&self, hits: &[Hit]) -> Option<Hit>
         ensures { result ≡ slice_get hits.now self.now.place }
     {
         hits.get(self.place).copied()
     }
 
-    /// Whether the next hit is one on what a port sees, and later than this time, or there is none.
+    /// Whether the next hit is a `View` later than this time, or there is none.
     #[inline(always)]
     pub(crate) fn is_ahead(&self, hits: &[Hit], time: u64) -> bool
         ensures { IsTrue result → 0 < until_view time (slice_get hits.now self.now.place) }
@@ -31,7 +31,7 @@ impl Cursor {
         }
     }
 
-    /// Passes the hits below this one, and answers whether it is among them all.
+    /// Passes the hits below this one. Returns whether this hit is in the list.
     pub(crate) fn reach(&mut self, hits: &[Hit], hit: Hit) -> bool
         requires rising { HitsRise hits.now }
         requires passed { AreBelow hits.now self.old.place hit }

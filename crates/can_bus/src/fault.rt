@@ -1,6 +1,6 @@
 use thiserror::Error;
 
-/// Why a bus is not made, or not run.
+/// Why a bus is refused, or a call of it.
 #[derive(Clone, Copy, Debug, PartialEq, Eq, Error)]
 pub enum BusFault {
     /// There is no port.

@@ -1,4 +1,4 @@
-//! Laws of the definitions, each a function that does nothing and ensures it.
+//! Laws of the definitions: functions that do nothing and ensure the law.
 ghost use Rattle.std.specs.Prelude.{◌≡◌, ◌<◌, ◌≤◌, ◌+◌, ◌-◌, ◌↔◌, ◌⊎◌, ℕ, suc, true, List, [], drop, length, map, take, None};
 ghost use Rattle.std.specs.Ordering.{partial_lt};
 ghost use Rattle.std.specs.List.{zip};
@@ -27,15 +27,15 @@ ghost use Rattle.can_bus.specs.Run.{AreLevelsOf, BusState, bus_level, bus_run, n
 
 use can_hit::Hit;
 
-/// One hit is below another, by `<`, exactly where the other is above it.
+/// One hit is below another, by `<`, exactly if the other is above it.
 pub fn hits_are_ordered()
     ensures { (a b : Disturbance) → partial_lt ⟦<Hit as PartialOrd>⟧.partial_cmp a b ≡ is_above b a }
 {}
 
-/// A run, bit time by bit time, is a disturbed run over whole lists of levels, whatever its hits: with the
-/// levels that it records there are levels on the wire and levels that the ports saw. The recorded levels
-/// and the end of every disturbed run are those of the run, and there is one for each number of bit times. As nothing
-/// is offered to its ports, each is where the levels that it saw have brought it.
+/// A run, bit time by bit time, is a disturbed run over whole lists of levels, with any hits. For its recorded levels
+/// there are wired levels, and levels that the ports sampled. The recorded levels and the end of every disturbed run
+/// are those of the run, and there is exactly one for each number of bit times. Without offers, the state of each
+/// port follows from the levels that it sampled.
 pub fn a_run_is_a_disturbed_run()
     ensures exists { (hits : List Disturbance) (bus : BusState) (recorded : List Level) → bus.rest ≤ idle_row →
         AreLevelsOf (λ t. bus_level hits t bus) recorded →
@@ -51,14 +51,14 @@ pub fn a_run_is_a_disturbed_run()
         × (played_then [] t node ports seen ≡ map (λ (beside : PortState × List Level). port_run beside.0 (take t beside.1)) (zip ports seen)) }
 {}
 
-/// Without disturbances, two runs are one run of as many bit times.
+/// Without hits, two runs are one run of the same total number of bit times.
 pub fn runs_join()
     ensures bus { (m n : ℕ) (bus : BusState) → bus_run [] (m + n) bus ≡ bus_run [] n (bus_run [] m bus) }
     ensures levels { (m t : ℕ) (bus : BusState) → bus_level [] (m + t) bus ≡ bus_level [] t (bus_run [] m bus) }
 {}
 
-/// Where nothing is offered, a bus that is played is a run without disturbances. Else it is runs of one bit time, one after
-/// another, before each of which the offers of its number are made.
+/// Without offers, a bus that is played is a run without hits. With offers, it is a sequence of runs of one bit time,
+/// before each of which its offers are made.
 pub fn a_run_without_offers_is_a_run()
     ensures bus { (n : ℕ) (bus : BusState) → played [] n bus ≡ bus_run [] n bus }
     ensures levels { (t : ℕ) (bus : BusState) → played_level [] t bus ≡ bus_level [] t bus }
@@ -68,16 +68,15 @@ pub fn a_run_without_offers_is_a_run()
         played_level offers t bus ≡ bus_level [] 0 (record (played offers t bus) { ports = all_made offers t (played offers t bus).ports }) }
 {}
 
-/// Frames of which no two have one arbitration field have exactly one ascending list, in whatever
-/// order they are given.
+/// Frames of which no two have the same arbitration field have exactly one ascending list, whatever their order.
 pub fn one_ascending_list()
     ensures exists { (waiting : List Parts) → AreDifferent waiting → IsAscending waiting (ascending waiting) }
     ensures only { (waiting frames : List Parts) → IsAscending waiting frames → frames ≡ ascending waiting }
     ensures in_any_order { (v w : List Parts) → IsPermutation v w → AreDifferent v → ascending v ≡ ascending w }
 {}
 
-/// Two quiet buses with the same frames have the same level at every time. Once each has run for as long
-/// as the frames take, all logs of both name the same frames in the same order.
+/// Two quiet buses with the same frames have the same level at every time. Once each has run for the span of the
+/// frames, all logs of both list the same frames in the same order.
 pub fn quiet_buses_agree()
     ensures levels { (one other : BusState) → AreAlike one other → (t : ℕ) → bus_level [] t one ≡ bus_level [] t other }
     ensures span { (one other : BusState) → AreAlike one other → span (queued one.ports) ≡ span (queued other.ports) }
@@ -85,29 +84,28 @@ pub fn quiet_buses_agree()
         LogsAgree (bus_run [] m one) (bus_run [] n other) }
 {}
 
-/// Ports that are made idle, with room in each log for all frames, and are offered their frames one
-/// after another, make a quiet bus, if they are two to 64 and no two of the frames have one
-/// arbitration field. The frames that wait at it are those that were offered.
+/// Idle new ports, two to 64, that are offered their frames one after another make a quiet bus. Each log has capacity
+/// for all frames, and no two frames have the same arbitration field. The waiting frames are those that were offered.
 pub fn a_quiet_bus_can_be_made()
     ensures quiet { (plans : List PlannedPort) → IsQuietPlan plans → IsQuiet (map ready_port plans) }
     ensures queued { (plans : List PlannedPort) → queued (map ready_port plans) ≡ planned plans }
     ensures ports { (plan : PlannedPort) → FitsQueue plan → IsPort (ready_port plan) }
 {}
 
-/// At most fifteen hits leave every port error active, wherever they fall.
+/// With at most fifteen hits every port stays error active, wherever they fall.
 pub fn fifteen_hits_are_borne()
     ensures { (frames : List Parts) (hits : List Disturbance) (ports : List PortState) → length hits ≤ 15 → AreBorne frames hits ports }
 {}
 
-/// One hit in every nine attempts leaves every port error active, however many they are, where one port
-/// sends all frames: the eight frames between two hits take back what a hit has counted.
+/// With one hit in any nine attempts every port stays error active, however many hits there are, if one port sends
+/// all frames. The eight attempts between two hits take back what a hit has counted.
 pub fn one_hit_in_nine_is_borne()
     ensures { (frames : List Parts) (hits : List Disturbance) (ports : List PortState) → FallInWindows frames hits → AreApart 9 hits →
         AreOfOnePort frames ports → AreBorne frames hits ports }
 {}
 
-/// Without hits a call that is repaired is a quiet call on a bus at rest, in the time of a quiet call, and
-/// its tally is 0.
+/// A repaired call without hits is a quiet call on a bus at rest. It takes the span of the quiet call, and its tally
+/// is 0.
 pub fn a_call_without_hits_is_quiet()
     ensures quiet { (bus : BusState) (frames : List Parts) → IsRepairedCall [] bus frames → IsQuietCall [] bus.ports frames × (bus.rest ≡ idle_row) }
     ensures repaired { (bus : BusState) (frames : List Parts) → IsQuietCall [] bus.ports frames → bus.rest ≡ idle_row → IsRepairedCall [] bus frames }
@@ -115,9 +113,9 @@ pub fn a_call_without_hits_is_quiet()
     ensures tally { (queue frames : List Parts) → ((tally queue frames []).tec ≡ 0) × ((tally queue frames []).rec ≡ 0) }
 {}
 
-/// A call on a new bus of the ports of `a_quiet_bus_can_be_made`, with hits in the windows of different
-/// attempts, in order, that all ports bear, is one that is repaired; and such hits are taken. No frame's
-/// window is empty: the last but one level of its end of frame is in it.
+/// A new bus of the ports of `a_quiet_bus_can_be_made` can have a repaired call. The hits are in order and in the
+/// windows of different attempts, and there are at most fifteen, or all ports stay error active. Such hits are
+/// accepted. No window is empty: it has the last but one level of the end of frame.
 pub fn a_repaired_call_can_be_made()
     ensures call { (plans : List PlannedPort) (hits : List Disturbance) → IsQuietPlan plans → FallInWindows (ascending (planned plans)) hits → AreApart 1 hits →
         (length hits ≤ 15) ⊎ AreBorne (ascending (planned plans)) hits (map ready_port plans) →
@@ -126,11 +124,12 @@ pub fn a_repaired_call_can_be_made()
     ensures window { (f : Parts) → IsInWindow f (length (wire f) - 2) }
 {}
 
-/// How many bit times later than the sender the receivers of a frame that is hit have their error. It is
-/// six at most, and none exactly where a stuff bit is hit, or a level behind the stuffed part. With so many
-/// dominant levels behind the hit, and with no fewer, a level is refused. A decoder of the levels has its
-/// fault there; where that is a wrong check sequence, with which the stuffed part ends, it is the level
-/// before.
+/// After a hit the receivers' error comes at most six bit times after the transmitter's. They are at once exactly if
+/// a stuff bit is hit, or a level after the stuffed part.
+///
+/// A receiver detects an error within the dominant levels that follow the hit exactly if they are at least as many as
+/// these bit times. A decoder of the levels has its fault at the level that is refused. If that fault is a wrong CRC
+/// sequence, with which the stuffed part ends, it is at the level before.
 pub fn receivers_err_soon()
     ensures few { (f : Parts) (offset : ℕ) → lateness f offset ≤ 6 }
     ensures at_once { (f : Parts) (offset : ℕ) → IsFrame f → 0 < offset →
@@ -141,7 +140,7 @@ pub fn receivers_err_soon()
         (fault : Fault) × (IsCodeFault (struck f offset 7) fault × (refused_place fault.kind fault.place ≡ offset + lateness f offset)) }
 {}
 
-/// Where nothing is hit the levels of a disturbed bus are those of a quiet one.
+/// Without hits the levels of a disturbed bus are those of a quiet one.
 pub fn no_hit_leaves_a_quiet_line()
     ensures { (frames : List Parts) (t : ℕ) → repaired_line_at frames [] t ≡ line_at frames t }
 {}

@@ -4,14 +4,14 @@ ghost use Rattle.can_bus.specs.Walks.{IsPassed};
 
 use can_frame::{IDLE_ROW, Level};
 
-/// An attempt to send, counted from 0 within a call, and how many bit times ago it began.
+/// A transmission attempt: its number in a call, counted from 0, and how many bit times ago it began.
 #[derive(Clone, Copy, Debug, PartialEq, Eq)]
 pub struct Attempt {
     pub number: u64,
     pub offset: u64,
 }
 
-/// The attempt that begins behind this one.
+/// The attempt that begins after this one.
 pub(crate) fn following(latest: Option<Attempt>) -> Attempt
     requires { IsPassed latest (2 ^ 64 - 1) }
     ensures { result ≡ following_of latest }
@@ -37,7 +37,7 @@ fn aged(latest: Option<Attempt>) -> Option<Attempt>
     }
 }
 
-/// Whether an attempt begins at this wired level, behind so many recessive recorded ones.
+/// Whether an attempt begins at this wired level, after `rest` recessive recorded ones.
 fn begins(rest: u8, wired: Level) -> bool
     ensures { result ≡ begins_of rest wired }
 {
@@ -59,7 +59,7 @@ pub(crate) fn attempt_now(latest: Option<Attempt>, rest: u8, wired: Level) -> Op
     }
 }
 
-/// How many recessive levels were recorded last, with this one, counted up to eleven.
+/// The number of recessive levels recorded last, including this one, counted up to eleven.
 pub(crate) fn rest_after(rest: u8, level: Level) -> u8
     ensures { result ≡ rest_after_of rest level }
 {

@@ -1,4 +1,4 @@
-//! Laws of networks, each a function that does nothing and ensures it.
+//! Laws of networks: functions that do nothing and ensure the law.
 ghost use Rattle.std.specs.Prelude.{◌≡◌, ◌+◌, ◌<◌, ◌≤◌, ℕ, List, length, map};
 ghost use Rattle.can_frame.specs.declared.level.Level.{Level};
 ghost use Rattle.can_frame.specs.declared.level.Level.TheVariants.{Recessive};
@@ -17,9 +17,10 @@ ghost use Rattle.can_bus.specs.Quiet.{AtEachNode};
 ghost use Rattle.can_bus.specs.Run.{AreLevelsOf, BusState, new_bus};
 ghost use Rattle.can_bus.specs.Shifts.{IsBusAtRest, hits_later, offers_later};
 
-/// A call, bit time by bit time, is a disturbed play over whole lists of levels, whatever its offers and hits: with the
-/// levels that it records there are levels on the wire and levels that the ports saw. The recorded levels, the end
-/// and the refused offers of every disturbed play are those of the call, and there is one for each number of bit times.
+/// A call, bit time by bit time, is a disturbed play over whole lists of levels, with any offers and hits. For its
+/// recorded levels there are wired levels, and levels that the ports sampled. The recorded levels, the end and the
+/// refused offers of every disturbed play are those of the call, and there is exactly one for each number of bit
+/// times.
 pub fn a_call_is_a_disturbed_play()
     ensures exists { (offers : List Offer) (hits : List Disturbance) (bus : BusState) (recorded : List Level) → bus.rest ≤ idle_row →
         AreLevelsOf (λ t. call_level offers hits t bus) recorded →
@@ -35,8 +36,9 @@ pub fn a_call_is_a_disturbed_play()
         (recorded ≡ records) × (one ≡ other) × (wired ≡ wires) × (seen ≡ views) × (few ≡ many) }
 {}
 
-/// Where the bus rests again behind a call on a network, as `play_disturbed` promises, the next call is one too, if its own offers and
-/// hits are as asked: what it needs to know of the ports follows from what they were before the first, and from its course.
+/// After a call on a network the next call is on a network too. The bus is at rest again after the first, as
+/// `Bus::play_disturbed` promises, and the next offers and hits are as required. What is required of the ports
+/// follows from their state before the first call, and from its course.
 pub fn a_network_call_can_follow()
     ensures { (offers next : List Offer) (hits struck : List Disturbance) (before after : BusState) (course behind : List Transmission) →
         IsNetworkCall offers hits before course → RestsAgain before after →
@@ -44,9 +46,9 @@ pub fn a_network_call_can_follow()
         IsNextCall offers course before.ports next struck behind → IsNetworkCall next struck after behind }
 {}
 
-/// A call on a new bus of ports that are made idle and offered frames, as in `a_quiet_bus_can_be_made`, with offers to them and
-/// hits as planned, is one on a network. So is one of a frame that is offered to its port again and again, at any times
-/// in order, and is disturbed up to fifteen times, at most once an attempt, anywhere in its window.
+/// A new bus of idle ports that are offered frames, as in `a_quiet_bus_can_be_made`, with planned offers and hits, is
+/// a network. So is a bus with one frame that is offered to its port again and again, at any times in order, with at
+/// most fifteen hits, at most one per attempt, anywhere in its window.
 pub fn a_network_can_be_made()
     ensures call { (offers : List Offer) (hits : List Disturbance) (plans : List PlannedPort) → IsNetworkPlan offers hits plans →
         IsNetworkCall offers hits (new_bus (map ready_port plans)) (network_course offers hits (map ready_port plans)) }
@@ -54,8 +56,9 @@ pub fn a_network_can_be_made()
         AllInWindow f hits → length hits ≤ 15 → IsNetworkPlan (offered_again f times) hits (two_ports (length times)) }
 {}
 
-/// A call that is shifted in time is the same call. On a bus at rest, with each offer made and each hit d bit times later, the first d
-/// recorded levels are recessive. From then on the recorded levels, the ports and the refused offers are those of the call as it was.
+/// A call can be shifted in time. On a bus at rest, with each offer and each hit d bit times later, the first d
+/// recorded levels are recessive. From then on the recorded levels, the ports and the refused offers are those of the
+/// original call.
 pub fn a_call_can_be_shifted()
     ensures waits { (d : ℕ) (offers : List Offer) (hits : List Disturbance) (bus : BusState) → IsBusAtRest bus → (t : ℕ) → t < d →
         call_level (offers_later d offers) (hits_later d hits) t bus ≡ Recessive }

@@ -1,4 +1,4 @@
-//! Laws of a bus to which frames are offered while it goes on, each a function that does nothing and ensures it.
+//! Laws of an open bus, to which frames are offered at run time: functions that do nothing and ensure the law.
 ghost use Rattle.std.specs.Prelude.{◌≡◌, ◌<◌, ℕ, List, [], length, map};
 ghost use Rattle.can_frame.specs.Parts.{Parts};
 ghost use Rattle.can_node.specs.Ports.{PortState};
@@ -11,11 +11,10 @@ ghost use Rattle.can_bus.specs.Run.{BusState, bus_level, bus_run};
 ghost use Rattle.can_bus.specs.Timed.{AreAtOnce, TimedParts, frames_of, all_offers, timed, QueuesHaveRoom};
 ghost use Rattle.can_bus.specs.Schedule.{schedule, track_at};
 
-/// Where all frames are offered at time 0, a bus to which frames are offered is a quiet bus at which they
-/// all wait: the premises of `play` are those of `run`, and what `play` does is what `run` does. The frames
-/// of the schedule are those that wait there, in the order of arbitration, and its track is their line. So
-/// the clauses of `play` are those of `run`, the marks in the logs included, as what a port has to send is
-/// what waits there.
+/// With all frames offered at time 0, an open bus is a quiet bus at which they all wait. The premises of `play` are
+/// those of `run`, and both do the same. The frames of the schedule are the waiting frames in priority order, and its
+/// track has their levels. So the clauses of `play` are those of `run`, including the marks in the logs, because what
+/// a port has to send is what waits there.
 pub fn offers_at_once_are_quiet()
     ensures to_quiet { (offers : List Offer) (ports : List PortState) (starts : List TimedParts) → AreAtOnce (map timed offers) → IsOpenCall offers ports starts →
         IsQuietCall [] (all_made offers 0 ports) (frames_of starts) }
@@ -29,9 +28,9 @@ pub fn offers_at_once_are_quiet()
     ensures levels { (offers : List Offer) (t : ℕ) (bus : BusState) → AreAtOnce (map timed offers) → played_level offers t bus ≡ bus_level [] t (with_first offers bus) }
 {}
 
-/// Ports that are made idle and offered frames, as in `a_quiet_bus_can_be_made`, and any number of offers to them
-/// in order, meet the premises of `play`'s theorem, where no two frames have one arbitration field and there is room
-/// for all in each queue and each log.
+/// Idle new ports that are offered frames, as in `a_quiet_bus_can_be_made`, and any offers to them in order, meet the
+/// premises of `play`'s theorem. No two frames have the same arbitration field, and each queue and each log has
+/// capacity for all frames.
 pub fn an_open_bus_can_be_made()
     ensures { (offers : List Offer) (plans : List PlannedPort) → IsOpenPlan offers plans →
         IsOpenCall offers (map ready_port plans) (schedule (all_offers offers (map ready_port plans))) }

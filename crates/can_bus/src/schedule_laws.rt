@@ -1,4 +1,4 @@
-//! Laws of the schedule, each a function that does nothing and ensures it.
+//! Laws of the schedule: functions that do nothing and ensure the law.
 ghost use Rattle.std.specs.Prelude.{◌≡◌, ◌<◌, ◌≤◌, ◌+◌, ◌*◌, ℕ, false, List, length, slice_get, slice_index_or, Some};
 ghost use Rattle.std.specs.List.Sorted.{IsPermutation};
 ghost use Rattle.can_frame.specs.declared.level.Level.TheVariants.{Recessive};
@@ -10,9 +10,8 @@ ghost use Rattle.can_bus.specs.Timed.{AreAtOnce, Lists, TimedParts, frames_of};
 ghost use Rattle.can_bus.specs.Schedule.{IsScheduleOf, StartsAt, schedule, track_at, FindsFree, left_at, starts_between};
 ghost use Rattle.can_bus.specs.CourseWaiting.{ahead_of, busy_times};
 
-/// Offers of which no two have one arbitration field have exactly one schedule. It starts each frame
-/// once, not before it is offered, and none before the one that started last and its intermission are
-/// over.
+/// Offers of which no two have the same arbitration field have exactly one schedule. It starts each frame once, not
+/// before it is offered, and not before the frame that started last and its intermission are over.
 pub fn one_schedule()
     ensures exists { (offers : List TimedParts) → AreDifferent (frames_of offers) → IsScheduleOf offers (schedule offers) }
     ensures only { (offers starts : List TimedParts) → IsScheduleOf offers starts → starts ≡ schedule offers }
@@ -30,20 +29,21 @@ pub fn a_track_has_each_wire()
         track_at starts t ≡ Recessive }
 {}
 
-/// Where all frames are offered at time 0, the schedule is that of a quiet bus: its frames ascend, and its
-/// track is their line.
+/// If all frames are offered at time 0, the schedule is that of a quiet bus. Its frames ascend, and its track has
+/// their levels.
 pub fn offers_at_once_are_ascending()
     ensures frames { (offers : List TimedParts) → AreDifferent (frames_of offers) → AreAtOnce offers → frames_of (schedule offers) ≡ ascending (frames_of offers) }
     ensures line { (offers : List TimedParts) → AreDifferent (frames_of offers) → AreAtOnce offers →
         (t : ℕ) → track_at (schedule offers) t ≡ line_at (ascending (frames_of offers)) t }
 {}
 
-/// A frame starts when what is left, as it is offered, of the frame on the wire and its intermission is over, and
-/// wire and intermission of each frame that starts meanwhile. Each of these goes before it in arbitration. So it
-/// starts no later than these frames take that go before it and are offered before it starts. With the longest
-/// wires that is, where n frames start meanwhile, 159 and 160 n bit times behind the offer, and where all frames have
-/// standard identifiers 134 and 135 n. Where the bus is free and each frame that was offered by then and goes
-/// before it has started, it starts at once.
+/// A frame starts when the rest of the frame on the bus and its intermission are over, and wire and intermission of
+/// each frame that starts in between. Each of these has higher priority.
+///
+/// - So it waits at most for the rest, and for the higher-priority frames that are offered before it starts.
+/// - If n frames start in between, it waits at most 159 + 160 n bit times; 134 + 135 n if all identifiers are
+///   standard.
+/// - It starts at once if the bus is free and each higher-priority frame offered by then has started.
 pub fn waiting_is_bounded()
     ensures exact { (offers starts : List TimedParts) → IsScheduleOf offers starts → (offer start : TimedParts) → StartsAt offers starts offer start →
         start.time ≡ offer.time + left_at offer.time starts + busy_times (starts_between offer.time start.time starts) }

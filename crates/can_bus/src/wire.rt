@@ -7,7 +7,7 @@ use can_frame::Level;
 use can_node::Port;
 use std::simd::prelude::*;
 
-/// How many levels are wired at once: as many as `u8x32` has lanes.
+/// The number of levels that are wired at once, which is the number of lanes of `u8x32`.
 const LANES: usize = 32;
 
 /// A full vector of levels as lanes.
@@ -30,7 +30,7 @@ fn wired_lanes(levels: &[Level; LANES]) -> Level
     Level::from_bool(dominant == 0)
 }
 
-/// The wired level of a few levels, one after another.
+/// The wired level of a few levels, one by one.
 fn wired_plainly(levels: &[Level]) -> Level
     ensures { result ≡ wired_of levels.now }
 {
@@ -42,8 +42,8 @@ fn wired_plainly(levels: &[Level]) -> Level
     Level::Recessive
 }
 
-/// The level of a wire that is driven by these levels: dominant if one of them is, else recessive
-/// (Bosch CAN 2.0 part B, section 2). Full vectors of levels are wired by lanes.
+/// The level of a bus line on which these levels are driven: dominant if one of them is, otherwise recessive (Bosch
+/// CAN 2.0 part B, section 2). Full vectors of levels are wired by lanes.
 pub fn wired(levels: &[Level]) -> Level
     ensures { result ≡ wired_of levels.now }
 {
@@ -56,7 +56,7 @@ pub fn wired(levels: &[Level]) -> Level
     wired_plainly(rest)
 }
 
-/// What a full vector of ports drives together.
+/// The wired level of a full vector of ports.
 fn wired_vector<P: Port>(ports: &[P]) -> Level
     requires { length ports.now ≡ 32 }
     ensures { result ≡ wired_of (map port_drives (map P.port ports.now)) }
@@ -68,7 +68,7 @@ fn wired_vector<P: Port>(ports: &[P]) -> Level
     wired(&levels)
 }
 
-/// What the ports drive together, one after another. For fewer ports than a full vector this is quicker.
+/// The wired level of ports, one by one. For fewer ports than a full vector this is faster.
 #[inline(always)]
 fn wired_one_by_one<P: Port>(ports: &[P]) -> Level
     ensures { result ≡ wired_of (map port_drives (map P.port ports.now)) }
@@ -81,7 +81,7 @@ fn wired_one_by_one<P: Port>(ports: &[P]) -> Level
     Level::Recessive
 }
 
-/// What the ports drive together.
+/// The wired level of all ports.
 #[inline(always)]
 pub(crate) fn wired_level<P: Port>(ports: &[P]) -> Level
     ensures { result ≡ wired_of (map port_drives (map P.port ports.now)) }

@@ -1,4 +1,4 @@
-//! Laws of a wire, each a function that does nothing and ensures it.
+//! Laws of a `Wire`: functions that do nothing and ensure the law.
 ghost use Rattle.std.specs.Prelude.{◌≡◌, ◌≤◌, ◌↔◌, ℕ, List, Some, length, slice_get};
 ghost use Rattle.can_frame.specs.declared.level.Level.{Level};
 ghost use Rattle.can_frame.specs.IdleRow.{idle_row};
@@ -8,16 +8,15 @@ ghost use Rattle.can_bus.specs.DisturbedPlay.{IsDisturbedPlay};
 ghost use Rattle.can_bus.specs.Run.{AreLevelsOf, BusState, CallState, bus_step, recorded as recorded_by, wired_level};
 ghost use Rattle.can_bus.specs.WireSteps.{AreRecorded, wire_begun, wire_level, wire_of, wire_seen, wire_step, wire_then};
 
-/// In each bit time of a call a bus records the level of a wire that is driven by its ports, and leaves the wire as one
-/// bit time leaves it.
+/// In each bit time of a call a bus records the level of a `Wire` that its ports drive, and both stay alike.
 pub fn a_bus_has_a_wire()
     ensures level { (hits : List Disturbance) (c : CallState) → recorded_by hits c ≡ wire_level hits (wire_of c) (wired_level c) }
     ensures after { (hits : List Disturbance) (c : CallState) → wire_of (bus_step hits c) ≡ wire_step hits (wire_of c) (wired_level c) }
 {}
 
-/// Over whole lists of levels: a wire that is driven by these, whoever drives them, has the opposite ones exactly at those times at
-/// which a hit falls on it, and no other levels are so. So the levels that a disturbed play records, and those that its ports see,
-/// are the ones of the wire that its ports drive.
+/// Over whole lists of levels, a `Wire` has the opposite of the driven level exactly when a hit falls on it, whoever
+/// drives it. No other levels have this property. So the levels that a disturbed play records, and those that its
+/// ports sample, are those of the `Wire` that its ports drive.
 pub fn a_wire_is_that_of_a_play()
     ensures recorded { (hits : List Disturbance) (rest : ℕ) (wired recorded : List Level) → rest ≤ idle_row →
         AreRecorded hits rest wired recorded ↔ AreLevelsOf (λ t. wire_then hits wired t (wire_begun rest)) recorded }

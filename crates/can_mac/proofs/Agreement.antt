@@ -1,5 +1,5 @@
--- Whether a check sequence agrees is divisibility by the generator, and a receiver of a whole stuffed part
--- knows it at the CRC delimiter.
+-- The CRC sequence agrees exactly if the generator divides the levels, and a receiver of a whole stuffed part finds this at the CRC
+-- delimiter.
 use Rattle.std.proofs.Common.{◌≡◌, ℕ, zero, suc, ◌+◌, ◌-◌, ◌<◌, ◌≤◌, true, Option, None, List, ◌++◌, length, take, [], ◌∷◌, ◌↔◌, refl, sym, ◌∙◌, ap, subst, arith}
 use Rattle.std.proofs.lemmas.Bool.{cond-true, cond-false}
 use Rattle.std.proofs.lemmas.List.{length-drop, take-append-drop}
@@ -22,7 +22,7 @@ use Rattle.can_mac.specs.Frames.{state_after}
 use Rattle.can_mac.proofs.PartEnds.{agrees-Decides, ends_part-ended, ends_part-partial}
 use Rattle.can_mac.proofs.FrameParts.{part_state, step-hears}
 
--- a list with its whole check sequence has the fifteen levels of one
+-- a list with its whole CRC sequence has the fifteen levels of one
 long_enough : (u : List Level) → length u ≡ frame_len u → 15 ≤ length u
 long_enough u whole = omega (arith, frame_len_ge u, whole)
 
@@ -85,7 +85,7 @@ module _ (u b : List Level) (part : IsPart u b) where
         ∙ ap (λ r. r.0) (step-hears (front n) wishes m.counters (waits n) Receiver x (part-no_error u b part n some within) tt)
         ∙ ap (λ f. hearing (part_phase f)) (sym (part-next u b part n some within) ∙ ap front one_more)
 
-    -- behind it comes the CRC delimiter
+    -- the CRC delimiter comes next
     pub heard-part : (state_after m waits b (length b)).phase ≡ CrcDelimiter (reading_of u)
     heard-part =
         let some : 0 < length b = omega (arith, IsPart-length u b part) in

@@ -1,4 +1,4 @@
--- A controller whose frame g comes behind the frame f on the bus, up to the place where they part, there, and behind it.
+-- A controller whose frame g has lower priority than the frame f on the bus: before the place where they differ, there, and after it.
 use Rattle.std.proofs.Common.{◌≡◌, ℕ, ◌+◌, ◌<◌, ◌≤◌, Option, Some, refl, sym, ◌∙◌, ap, arith}
 use Rattle.std.proofs.Math.Dec.{ltb}
 use Rattle.std.proofs.lemmas.Bool.{cond_both}
@@ -21,7 +21,7 @@ module _ (f g : Parts) (m : MacState) (waits : ℕ → Option Parts) (start : St
       let more = parts.within in
       record { some = some; within = omega (arith, length-with_intermission f); no_wish = λ past. absurd (omega (arith, past, length-wire f)) }
 
-  -- up to there it is a sender
+  -- up to there it is a transmitter
   pub contender-sends : (o : ℕ) → 0 < o → o ≤ place → (state_after m waits (with_intermission f) o).role ≡ Sender g
   contender-sends o some within =
       let more = parts.within in
@@ -41,7 +41,7 @@ module _ (f g : Parts) (m : MacState) (waits : ℕ → Option Parts) (start : St
       ∙ own-early g o (omega arith)
       ∙ sym (line-early g o (omega arith))
 
-  -- there it tells that it has lost
+  -- there it reports that it has lost
   pub contender-lost : told_at m waits (with_intermission f) place ≡ Some Lost
   contender-lost =
       told_at-frame f m waits start place (together (place + 1) (omega arith) (omega arith))
@@ -53,7 +53,7 @@ module _ (f g : Parts) (m : MacState) (waits : ℕ → Option Parts) (start : St
   receiver-stays : (k : ℕ) → role_after Receiver k ≡ Receiver
   receiver-stays k = cond_both (ltb k 13) Receiver Receiver (λ r. r ≡ Receiver) (λ e. refl) (λ e. refl)
 
-  -- behind it it is a receiver
+  -- afterwards it is a receiver
   pub contender-receives : (o : ℕ) → place < o → AreHeard f m o → (state_after m waits (with_intermission f) o).role ≡ Receiver
   contender-receives o past heard =
       ap (λ s. s.role) (state_after-frame f m waits start o heard)

@@ -1,4 +1,4 @@
--- The levels behind the stuffed part, and what stands in the levels at the end of a frame.
+-- The levels after the stuffed part, and the levels at the end of a frame.
 use Rattle.std.proofs.Common.{◌≡◌, ℕ, ◌+◌, Bool, true, not, List, [], ◌∷◌, ◌++◌, refl, sym, ◌∙◌, ap, subst, append_assoc}
 use Rattle.std.proofs.lemmas.List.{replicate-append-replicate}
 use Rattle.can_frame.specs.declared.level.Level.{Level}
@@ -18,7 +18,7 @@ use Rattle.can_mac.proofs.PartEnds.{agrees-Decides}
 use Rattle.can_mac.proofs.Hearing.{EndsIn, EndsIn-more, HeardPart, HeardSlot, to_end, EndsSpelled}
 use Rattle.can_code.proofs.TailLemmas.{ack_slot-told}
 
--- one level more behind the stuffed part
+-- one level more after the stuffed part
 pub HeardPart-more : (role : Role) (r : Reading) (behind levels : List Level) (x : Level) → HeardPart role r behind levels → HeardPart role r (behind ++ x ∷ []) (levels ++ x ∷ [])
 HeardPart-more role r behind levels x h = record {
   u = h.u;
@@ -39,7 +39,7 @@ HeardSlot-more role r place levels h =
       heard = subst (λ b. HeardPart role r b (levels ++ Recessive ∷ [])) row (HeardPart-more role r (to_end place h.ack) levels Recessive h.heard);
     }
 
--- a stuffed part with a check sequence that agrees, and a tail behind it, spell what was heard
+-- a stuffed part with a correct CRC sequence, and the levels after it, encode what was heard
 Spells-part : (u part : List Level) (acked : Bool) (last : Level) → IsPart u part → IsCrc (head_of u) (check_of u) → Spells (heard_of u acked last) (part ++ tail (ack_slot acked) last)
 unfolding heard_of
 Spells-part u part acked last is_part is_crc = record {
@@ -53,12 +53,12 @@ Spells-part u part acked last is_part is_crc = record {
   };
 }
 
--- the frame that is heard is the one that the unstuffed levels tell
+-- the frame that is heard is the one that the unstuffed levels encode
 frame_of-heard_of : (u : List Level) (acked : Bool) (last : Level) → (heard_of u acked last).frame ≡ frame_of u
 unfolding heard_of
 frame_of-heard_of u acked last = refl
 
--- the ACK slot tells whether anyone has acknowledged
+-- the ACK slot shows whether a receiver has acknowledged
 -- at the last but one level of the end of frame a receiver has heard a frame
 pub EndsSpelled-received : (r : Reading) (levels : List Level) → r.agrees ≡ true → HeardSlot Receiver r (to_end 6) levels → EndsSpelled r.frame levels
 EndsSpelled-received r levels agreed h =
@@ -78,7 +78,7 @@ EndsSpelled-received r levels agreed h =
       ends = h.heard.ends;
     }
 
--- at the last level of the end of frame a sender has seen its own wire
+-- at the last level of the end of frame a transmitter has seen its own wire
 pub EndsIn-sent : (f : Parts) (r : Reading) (levels : List Level) → HeardSlot (Sender f) r (to_end 7) levels → EndsIn (wire f) levels
 EndsIn-sent f r levels h =
     let whole : h.heard.part ++ to_end 7 h.ack ≡ wire f = ap (λ a. h.heard.part ++ to_end 7 a) h.fits ∙ ap (λ p. p ++ to_end 7 Dominant) h.heard.own.part_is in

@@ -1,4 +1,4 @@
--- Behind its arbitration a frame is heard alike by all that receive it.
+-- After arbitration all receivers hear a frame alike.
 use Rattle.std.proofs.Common.{◌≡◌, ℕ, zero, suc, ◌+◌, ◌-◌, ◌<◌, ◌≤◌, Option, Some, length, sym, ◌∙◌, ap, subst, arith, inl, inr}
 use Rattle.std.specs.Prelude.{unwrap_or}
 use Rattle.std.proofs.lemmas.Bool.{cases_lt, leb-true}
@@ -26,7 +26,7 @@ front-grows f is a (suc k) some within =
     subst (λ n. length (front_at f a).unstuffed ≤ length (front_at f n).unstuffed) at
     (subst (λ v. length (front_at f a).unstuffed ≤ length v.unstuffed) (sym next) (omega (arith, before, more)))
 
--- who sent another frame has lost once so many unstuffed levels have been heard
+-- a transmitter of another frame has lost once this many unstuffed levels have been heard
 pub has-lost : (f g : Parts) → IsFrame f → IsFrame g → Before (arbitration_field f) (arbitration_field g) → (o : ℕ) → 0 < o → o < length (stuffed_part f) → rtr_place g.id.extended < length (front_at f o).unstuffed →
     role_at f (Some g) o ≡ Receiver
 has-lost f g is g_is before o some within heard =

@@ -23,7 +23,7 @@ use Rattle.can_mac.proofs.FrameRoles.{role-own, role-together, role-parted, leve
 use Rattle.can_mac.proofs.FrameSteps.{state-early, state-late}
 use Rattle.can_mac.proofs.FrameRuns.{state_after-frame}
 
--- the levels of a sender behind the stuffed part, up to the end of intermission
+-- the levels of a transmitter after the stuffed part, to the end of intermission
 abbrev silence : List Level
 silence = tail Recessive Recessive ++ (Recessive ∷ Recessive ∷ Recessive ∷ [])
 
@@ -43,12 +43,12 @@ receiver-slot f o here = cond-true (eqb o (slot_place f)) Dominant Recessive (eq
 pub receiver-elsewhere : (f : Parts) (o : ℕ) → o ≢ slot_place f → role_drives f Receiver o ≡ Recessive
 receiver-elsewhere f o other = cond-false (eqb o (slot_place f)) Dominant Recessive (ne_eqb o (slot_place f) other)
 
--- the phases behind the stuffed part
+-- the phases after the stuffed part
 module _ (f : Parts) (pending : ℕ) (c : ConfineParts) (now : Option Parts) where
   abbrev Drives : Role → List Level → ℕ → Type 0
   Drives role levels k = mac_drives (end_state f role pending c k) now ≡ level_at levels k
 
-  -- the acknowledgement
+  -- the acknowledgment
   abbrev slot : List Level
   slot = Recessive ∷ Dominant ∷ Recessive ∷ Recessive ∷ Recessive ∷ Recessive ∷ Recessive ∷ Recessive ∷ Recessive ∷ Recessive ∷ Recessive ∷ Recessive ∷ Recessive ∷ []
 
@@ -138,7 +138,7 @@ driven_at-frame f m waits start (suc o) heard =
     ap (λ s. mac_drives s (waits (suc o))) (state_after-frame f m waits start (suc o) here)
     ∙ drives-frame f start.frame (waits 0) start.kept start.behind m.overloads.pending m.counters (waits (suc o)) (suc o) (omega arith) (omega (arith, heard.within))
 
--- behind the stuffed part the bus has the levels that the sender drives, but for the ACK slot
+-- after the stuffed part the bus has the levels that the transmitter drives, except in the ACK slot
 abbrev Alike : ℕ → Type 0
 Alike k = k ≢ 1 → level_at silence k ≡ level_at end_levels k
 

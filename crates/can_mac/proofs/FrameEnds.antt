@@ -1,4 +1,4 @@
--- What the levels behind a frame's stuffed part make of a controller, one by one.
+-- The state of a controller after each level that follows the stuffed part of a frame.
 use Rattle.std.proofs.Common.{◌≡◌, ℕ, zero, suc, ◌+◌, ◌-◌, ◌<◌, ◌≤◌, true, false, Option, None, List, [], ◌∷◌, ◌++◌, refl, sym, ◌∙◌, subst, arith, inl, inr}
 use Rattle.std.proofs.Math.Dec.{leb}
 use Rattle.std.proofs.lemmas.Bool.{cases_Bool, cond-false, le-leb, leb-true, or_from, cases_lt, false_from_ne_true}
@@ -47,7 +47,7 @@ module _ (c : ConfineParts) (active : IsActive c) where
   pub active-sent : IsActive (counted FrameSent c)
   active-sent = active-counted FrameSent (record { tec = omega (arith, active.tec); rec = active.rec })
 
-  -- nor is it error passive behind a frame that it has sent
+  -- nor is it error passive after a frame that it has sent
   pub active-awake : is_passive (counted FrameSent c) ≡ false
   active-awake = or_from (leb 128 (counted FrameSent c).tec) (leb 128 (counted FrameSent c).rec) (false_from_ne_true (leb 128 (counted FrameSent c).tec) (λ e. omega (arith, leb-true 128 (counted FrameSent c).tec e, active-sent.tec))) (false_from_ne_true (leb 128 (counted FrameSent c).rec) (λ e. omega (arith, leb-true 128 (counted FrameSent c).rec e, active-sent.rec)))
 
@@ -62,7 +62,7 @@ module _ (c : ConfineParts) (on : is_bus_off c ≡ false) where
   pub on-sent : is_bus_off (counted FrameSent c) ≡ false
   on-sent = on-counted FrameSent (false_from_ne_true (leb 256 (c.tec - 1)) (λ e. let less = leb-true 256 (c.tec - 1) e in let h : false ≡ true = sym on ∙ le-leb 256 c.tec (omega (arith, less)) in cc))
 
--- the state after k levels behind the stuffed part of f, in this role
+-- the state after k levels after the stuffed part of f, in this role
 abbrev pub end_state : Parts → Role → ℕ → ConfineParts → ℕ → MacState
 end_state f role pending c k = record {
   phase = slice_index_or (end_phases (own_reading f)) k Idle;
@@ -71,11 +71,11 @@ end_state f role pending c k = record {
   counters = counters_after role c k;
 }
 
--- the levels behind the stuffed part, up to the end of intermission
+-- the levels after the stuffed part, to the end of intermission
 abbrev pub end_levels : List Level
 end_levels = tail Dominant Recessive ++ (Recessive ∷ Recessive ∷ Recessive ∷ [])
 
--- each of these levels makes the next state, at a receiver and at the sender
+-- each of these levels makes the next state, at a receiver and at the transmitter
 module _ (f : Parts) (c : ConfineParts) (on : is_bus_off c ≡ false) (waiting : Option Parts) where
   abbrev Steps : Role → ℕ → ℕ → Type 0
   Steps role pending k = mac_step (end_state f role pending c k) waiting (level_at end_levels k) ≡ (end_state f role pending c (k + 1), end_event f role k)
@@ -93,7 +93,7 @@ module _ (f : Parts) (c : ConfineParts) (on : is_bus_off c ≡ false) (waiting :
   unfolding mac_step
   receiver-late = (refl, (refl, (refl, (refl, tt))))
 
-  -- a receiver enters intermission where no overload frame is asked for
+  -- a receiver enters intermission if no overload frame is requested
   pub receiver-ends : (pending k : ℕ) → k < 13 → (9 ≤ k → pending ≡ 0) → Steps Receiver pending k
   receiver-ends pending k within no_wish = elim (cases_lt k 9) [
     | inl early ↦ Each-at (Steps Receiver pending) 0 9 k (receiver-early pending) (omega arith) (omega arith)
@@ -107,7 +107,7 @@ module _ (f : Parts) (c : ConfineParts) (on : is_bus_off c ≡ false) (waiting :
   unfolding mac_step
   sender-sends pending = rw (on-sent c on) refl
 
-  -- the last level of intermission, at a sender that is not error passive
+  -- the last level of intermission, at a transmitter that is not error passive
   sender-rests : (pending : ℕ) → is_passive (counted FrameSent c) ≡ false → Steps (Sender f) pending 12
   unfolding mac_step
   sender-rests pending awake = rw awake refl
@@ -123,7 +123,7 @@ module _ (f : Parts) (c : ConfineParts) (on : is_bus_off c ≡ false) (waiting :
     | inr late ↦ let last : k ≡ 12 = omega (arith, within, late) in subst (Steps (Sender f) pending) (sym last) (sender-rests pending (awake last))
   ]
 
-  -- behind the last level of intermission its sender is idle, or where it is error passive in suspend transmission
+  -- after the last level of intermission its transmitter is idle, or if it is error passive in suspend transmission
   pub sender-settles : (pending : ℕ) → mac_step (end_state f (Sender f) pending c 12) waiting Recessive ≡ (settled f (is_passive (counted FrameSent c)) pending (counted FrameSent c), None)
   unfolding mac_step
   sender-settles pending = elim (cases_Bool (is_passive (counted FrameSent c))) [

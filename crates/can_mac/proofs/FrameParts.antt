@@ -1,4 +1,4 @@
--- One more level of a frame's stuffed part, at a receiver, at a sender, and at one that loses arbitration.
+-- One more level of a frame's stuffed part, at a receiver, at a transmitter, and at one that loses arbitration.
 use Rattle.std.proofs.Common.{◌≡◌, ◌≢◌, ℕ, ◌+◌, ◌<◌, ◌≤◌, Bool, true, false, ◌&&◌, Option, Some, None, [], ◌∷◌, ◌++◌, length, refl, sym, ◌∙◌, ap, arith, inl, inr, append_assoc, length-append}
 use Rattle.std.proofs.Math.Dec.{eqb, ltb}
 use Rattle.std.proofs.lemmas.Bool.{cond-true, cond-false, cond_both, ne_eqb, lt-ltb, le-ltb, le-leb, cases_lt}
@@ -28,7 +28,7 @@ use Rattle.can_mac.specs.Frames.{with_intermission, behind_part, own_reading, en
 use Rattle.can_mac.proofs.PartEnds.{ends_part-ended, ends_part-partial, agrees-Decides}
 use Rattle.can_mac.proofs.FrameEnds.{end_levels}
 
--- a sender drives this level; a receiver takes any
+-- a transmitter drives this level; a receiver takes any
 abbrev pub Takes : Role → FrontParts → Level → Type 0
 Takes Receiver front x = Unit {0}
 Takes (Sender g) front x = part_drives (Sender g) front ≡ x

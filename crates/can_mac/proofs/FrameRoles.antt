@@ -25,7 +25,7 @@ use Rattle.can_mac.proofs.FrameEnds.{end_levels}
 use Rattle.can_mac.proofs.FrameParts.{Takes, line-parts, line-early}
 use Rattle.can_frame.proofs.LevelTests.{same-Decides}
 
--- a sender of g loses arbitration against f with the level behind the first o
+-- a transmitter of g loses arbitration against f with the level after the first o
 pub record Loses (f g : Parts) (o : ℕ) : Type 0 where
   pub low : level_at (stuffed_part f) o ≡ Dominant
   pub free : (front_at f o).run ≢ 5
@@ -43,7 +43,7 @@ module _ (f g : Parts) (o : ℕ) where
       cond-false (pointwise same (take o (with_intermission g)) (take o (with_intermission f))) (Sender g) Receiver
       (false_from_ne_true _ (λ e. apart ((pointwise_decides same-Decides (take o (with_intermission g)) (take o (with_intermission f))).0 e)))
 
--- the sender of f
+-- the transmitter of f
 pub role-own : (f : Parts) (o : ℕ) → role_at f (Some f) o ≡ Sender f
 role-own f o = role-alike f f o refl
 
@@ -58,7 +58,7 @@ module _ (f g : Parts) (place : ℕ) (parts : PartsAt f g place) where
   level-together o within =
       sym (get_or-take place (with_intermission g) o Dominant within) ∙ ap (λ l. level_at l o) parts.alike ∙ get_or-take place (with_intermission f) o Dominant within
 
-  -- behind it g is not sent
+  -- afterwards g is not sent
   pub role-parted : (o : ℕ) → place < o → role_at f (Some g) o ≡ Receiver
   role-parted o past = role-apart f g o (λ one.
       let low = parts.low in
@@ -66,7 +66,7 @@ module _ (f g : Parts) (place : ℕ) (parts : PartsAt f g place) where
       let both = sym (get_or-take o (with_intermission g) place Dominant past) ∙ ap (λ l. level_at l place) one ∙ get_or-take o (with_intermission f) place Dominant past in
       cc)
 
--- f and g part behind their first d levels
+-- f and g differ after their first d levels
 module _ (f g : Parts) (f_is : IsFrame f) (g_is : IsFrame g) (d : ℕ) (parts : FirstDifference f g d) where
   beginning : (h : Parts) → d < length (stuffed_part h) → take d (with_intermission h) ≡ take d (stuffed_part h)
   beginning h more = ap (take d) (line-parts h) ∙ take-append-le d (stuffed_part h) end_levels (omega arith)
@@ -156,7 +156,7 @@ standing f (Some g) f_is g_is (inr before) o some more =
       ]
     ]
 
--- behind the stuffed part there is no sender but that of f
+-- after the stuffed part only the transmitter of f is one
 pub data Ending (f : Parts) (waiting : Option Parts) : Type 0 where
   receives : ((o : ℕ) → length (stuffed_part f) ≤ o → role_at f waiting o ≡ Receiver) → Ending f waiting
   sends : ((o : ℕ) → role_at f waiting o ≡ Sender f) → Ending f waiting
@@ -197,7 +197,7 @@ line-first : (f : Parts) → take 1 (with_intermission f) ≡ Dominant ∷ []
 unfolding stuffed_part unstuffed stuffed head
 line-first f = refl
 
--- all senders start alike
+-- all transmitters start alike
 pub role-start : (f g : Parts) → role_at f (Some g) 1 ≡ Sender g
 role-start f g = role-alike f g 1 (line-first g ∙ sym (line-first f))
 

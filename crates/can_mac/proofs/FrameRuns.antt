@@ -89,7 +89,7 @@ module _ (f : Parts) (m : MacState) (waits : ℕ → Option Parts) (start : Star
       ∙ ap (λ r. outcome (part_state (phase_at f 1) r (record { pending = m.overloads.pending; used = 0 }) m.counters) None) (sym (role-first f (waits 0)))
       ∙ ap (λ s. outcome s None) (sym (state-early f start.frame (waits 0) m.overloads.pending m.counters 1 (omega (arith, more))))
 
-  -- a level behind it
+  -- a level after it
   next : (o : ℕ) → 0 < o → o < length (with_intermission f) → (length (wire f) ≤ o + 1 → m.overloads.pending ≡ 0)
       → mac_step (state o) (waits o) (level_at (with_intermission f) o) ≡ outcome (state (o + 1)) (frame_event f (waits 0) o)
   next o some within no_wish = step-next f start.frame (waits 0) m.overloads.pending m.counters start.kept start.behind (active-on m.counters start.active) (waits o) o some within no_wish (λ last sends. active-awake m.counters start.active)
@@ -108,7 +108,7 @@ module _ (f : Parts) (m : MacState) (waits : ℕ → Option Parts) (start : Star
   state_after-frame zero heard = absurd (omega (arith, heard.some))
   state_after-frame (suc o) heard = run o heard.within heard.no_wish
 
-  -- what each level tells
+  -- the event of each level
   pub told_at-frame : (o : ℕ) → AreHeard f m (o + 1) → told_at m waits (with_intermission f) o ≡ frame_event f (waits 0) o
   told_at-frame zero heard = ap (λ r. r.1) first ∙ sym (event-first f start.frame (waits 0))
   told_at-frame (suc o) heard =

@@ -1,5 +1,4 @@
--- Each level of a frame, and of the intermission behind it, makes the next state of a controller, and tells
--- what is to be told.
+-- Each level of a frame and of its intermission leads to the next state of a controller, and causes its event.
 use Rattle.std.proofs.Common.{◌≡◌, ℕ, ◌+◌, ◌<◌, ◌≤◌, false, Option, Some, None, length, refl, sym, ◌∙◌, ap, arith, inl, inr}
 use Rattle.std.proofs.Math.Dec.{ltb}
 use Rattle.std.proofs.lemmas.Bool.{cond-true, cond-false, lt-ltb, le-ltb, cases_lt}
@@ -39,15 +38,15 @@ loss-none (Sender g) Receiver e = cc
 abbrev pub outcome : MacState → Option Event → MacState × Option Event
 outcome m told = (m, told)
 
--- a stuffed part goes on behind the start of frame
+-- a stuffed part continues after the start of frame
 pub some_part : (f : Parts) → IsFrame f → 1 < length (stuffed_part f)
 some_part f is = omega (arith, IsPart-length (unstuffed f) (stuffed_part f) (stuffed_part-part f is))
 
--- with the last level of intermission its sender is idle: it is not error passive
+-- with the last level of intermission its transmitter is idle: it is not error passive
 abbrev pub Awake : Parts → Option Parts → ConfineParts → ℕ → Type 0
 Awake f waiting c o = o + 1 ≡ length (with_intermission f) → role_at f waiting o ≡ Sender f → is_passive (counted FrameSent c) ≡ false
 
--- what the levels of the stuffed part tell, and those behind it
+-- the events of the levels of the stuffed part, and of those after it
 module _ (f : Parts) (waiting : Option Parts) (o : ℕ) where
   pub event-early : o < length (stuffed_part f) → frame_event f waiting o ≡ loss (role_at f waiting o) (role_at f waiting (o + 1))
   event-early more = cond-true (ltb o (length (stuffed_part f))) _ _ (lt-ltb o (length (stuffed_part f)) more)
@@ -66,7 +65,7 @@ module _ (f : Parts) (is : IsFrame f) (waiting : Option Parts) (pending : ℕ) (
   abbrev n : ℕ
   n = length (stuffed_part f)
 
-  -- its state up to the end of the stuffed part, and behind it
+  -- its state in the stuffed part, and after it
   pub state-early : (o : ℕ) → o ≤ n → state o ≡ part_state (phase_at f o) (role_at f waiting o) wishes c
   state-early o within =
       let none : behind_part f o ≡ 0 = omega (arith, within) in
@@ -115,7 +114,7 @@ module _ (f : Parts) (is : IsFrame f) (waiting : Option Parts) (pending : ℕ) (
           ∙ becomes Receiver (Some Lost) (sym new) (sym (ap (λ r. loss r (role_at f waiting (o + 1))) old ∙ ap (loss (Sender g)) new))
     ]
 
-  -- a level behind it
+  -- a level after it
   module _ (o : ℕ) (past : n ≤ o) (more : o < length (with_intermission f)) (now : Option Parts) where
     abbrev k : ℕ
     k = behind_part f o

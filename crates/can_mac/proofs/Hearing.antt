@@ -1,5 +1,5 @@
--- What a controller knows of the levels that it has seen: where a frame goes on, its levels so far stand at
--- their end; and if the controller sends it, they are those of its own frame.
+-- What a controller knows of the levels that it has sampled: during a frame, its levels so far are at their end; and if the controller
+-- sends the frame, they are those of its own frame.
 use Rattle.std.proofs.Common.{◌≡◌, ◌≢◌, ℕ, ◌<◌, ◌≤◌, true, Option, Some, None, List, [], ◌∷◌, ◌++◌, length, take, replicate, ◌∙◌, ap, append_assoc}
 use Rattle.can_frame.specs.declared.level.Level.{Level}
 use Rattle.can_frame.specs.declared.level.Level.TheVariants.{Dominant, Recessive}
@@ -28,7 +28,7 @@ EndsIn stretch levels = (before : List Level) × (levels ≡ before ++ stretch)
 pub EndsIn-more : (stretch levels : List Level) (x : Level) → EndsIn stretch levels → EndsIn (stretch ++ x ∷ []) (levels ++ x ∷ [])
 EndsIn-more stretch levels x h = (h.0, ap (λ l. l ++ x ∷ []) h.1 ∙ append_assoc h.0 stretch (x ∷ []))
 
--- what a sender of f has heard is the front of its own first o levels, and these are the part so far
+-- what a transmitter of f has heard is the front of its own first o levels, and these are the part so far
 pub record OwnFront (f : Parts) (part : List Level) (front : FrontParts) : Type 0 where
   pub is : IsFrame f
   pub o : ℕ
@@ -53,12 +53,12 @@ abbrev pub IsOwnPart : Role → (part u : List Level) → Type 0
 IsOwnPart Receiver part u = Unit {0}
 IsOwnPart (Sender f) part u = OwnPart f part u
 
--- the ACK slot behind which a controller goes on: to a sender it is dominant
+-- the ACK slot after which a controller continues: to a transmitter it is dominant
 abbrev pub FitsSlot : Role → Level → Type 0
 FitsSlot Receiver ack = Unit {0}
 FitsSlot (Sender f) ack = ack ≡ Dominant
 
--- what a controller takes: a receiver no frame whose check sequence differs
+-- what a controller accepts: a receiver no frame with a wrong CRC sequence
 abbrev pub Accepts : Role → Reading → Type 0
 Accepts Receiver r = r.agrees ≡ true
 Accepts (Sender f) r = Unit {0}
@@ -71,7 +71,7 @@ pub record HearsPart (role : Role) (front : FrontParts) (levels : List Level) : 
   pub goes_on : next_place front ≢ ended
   pub own : IsOwnFront role part front
 
--- a whole stuffed part, of which r tells, and behind it these levels are at the end of the levels
+-- a whole stuffed part, which encodes r, and these levels after it are at the end of the levels
 pub record HeardPart (role : Role) (r : Reading) (behind levels : List Level) : Type 0 where
   pub u : List Level
   pub part : List Level
@@ -80,13 +80,13 @@ pub record HeardPart (role : Role) (r : Reading) (behind levels : List Level) : 
   pub read : r ≡ reading_of u
   pub own : IsOwnPart role part u
 
--- the same with an ACK slot, behind which the controller goes on
+-- the same with an ACK slot, after which the controller continues
 pub record HeardSlot (role : Role) (r : Reading) (behind : Level → List Level) (levels : List Level) : Type 0 where
   pub ack : Level
   pub fits : FitsSlot role ack
   pub heard : HeardPart role r (behind ack) levels
 
--- the levels behind the stuffed part, up to the ACK slot
+-- the levels after the stuffed part, to the ACK slot
 abbrev pub to_slot : Level → List Level
 to_slot ack = Recessive ∷ ack ∷ []
 
@@ -94,7 +94,7 @@ to_slot ack = Recessive ∷ ack ∷ []
 abbrev pub to_end : ℕ → Level → List Level
 to_end n ack = Recessive ∷ ack ∷ Recessive ∷ replicate n Recessive
 
--- the same in the end of frame, of which so many levels have come
+-- the same in the end of frame, of which this many levels have been sampled
 pub record HeardEnd (role : Role) (r : Reading) (place : ℕ) (levels : List Level) : Type 0 where
   pub within : place ≤ 6
   pub accepts : Accepts role r
@@ -127,7 +127,7 @@ pub record EndsSpelled (f : Parts) (levels : List Level) : Type 0 where
   pub holds : h.frame ≡ f
   pub ends : EndsIn spelled levels
 
--- what an event tells of the levels up to it
+-- what an event claims of the levels so far
 abbrev pub IsTold : Option Event → List Level → Type 0
 IsTold (Some (Received f)) levels = EndsSpelled f levels
 IsTold (Some (Sent f)) levels = EndsIn (wire f) levels
@@ -138,7 +138,7 @@ IsTold (Some WentOff) levels = Unit {0}
 IsTold (Some Recovered) levels = Unit {0}
 IsTold None levels = Unit {0}
 
--- a move behind which a controller knows these levels, and what it tells of them is so
+-- a move after which a controller knows these levels, and whose event is true of them
 pub record KnowsAfter (v : MacMove) (levels : List Level) : Type 0 where
   pub knows : Knows v.phase v.role levels
   pub told : IsTold v.event levels

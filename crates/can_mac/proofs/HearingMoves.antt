@@ -1,4 +1,4 @@
--- What a controller knows of the levels stays so with each move, and what a move tells of them is so.
+-- Each move keeps what a controller knows of the levels, and its event is true of them.
 use Rattle.std.proofs.Common.{◌≡◌, ℕ, ◌+◌, ◌<◌, Bool, true, false, not, ◌&&◌, Option, Some, None, List, [], ◌∷◌, ◌++◌, length, refl, ◌∙◌, ap, subst, arith, cond}
 use Rattle.std.proofs.Math.Dec.{eqb}
 use Rattle.std.specs.Prelude.{nat_lt}
@@ -38,7 +38,7 @@ flag-knows false un role levels = tt
 error : {levels : List Level} (cause : Option Cause) (un : Bool) (s : Stance) (kind : ErrorKind) → KnowsAfter (errs_by cause un s kind) levels
 error {levels} cause un s kind = record { knows = flag-knows s.passive un s.role levels; told = tt }
 
--- a passive error flag, and behind it
+-- a passive error flag, and after it
 passive_flag-knows : (x : Level) (run : ℕ) (un : Bool) (role : Role) (levels : List Level) → Knows (passive_phase x run un) role levels
 passive_flag-knows x run un role levels = cond_both {A = MacPhase} (nat_lt run 6) (PassiveFlag x run un) (AfterFlag true 0) (λ phase. Knows phase role levels) (λ e. tt) (λ e. tt)
 
@@ -51,7 +51,7 @@ enters s Receiver = either (nat_lt 0 s.overloads.pending && nat_lt s.overloads.u
 begin : (levels : List Level) (s : Stance) (role : Role) → IsOwnFront role (Dominant ∷ []) first_front → KnowsAfter (begins_frame s role) (levels ++ Dominant ∷ [])
 begin levels s role own = record { knows = HearsPart-first role levels own; told = tt }
 
--- to its sender, where the frame that waits is one
+-- for its transmitter, if the pending frame is within its limits
 next_role-own : (held_back : Bool) (waiting : Option Parts) → IsFrameOrNone waiting → IsOwnFront (next_role held_back waiting) (Dominant ∷ []) first_front
 next_role-own held_back None is = tt
 next_role-own true (Some f) is = tt
@@ -80,11 +80,11 @@ module _ (passive : Bool) (overloads : Overloads) (levels : List Level) where
       no_error-bit : is_stuff_error front x ≡ false
       no_error-bit = ap (λ b. b && same x front.last) not_due
 
-      -- the level that a sender sent is its own
+      -- the level that a transmitter sent is its own
       sent-own : (f : Parts) (h : HearsPart (Sender f) front levels) → sent_level f (length front.unstuffed) ≡ x → IsOwnFront (Sender f) (h.part ++ x ∷ []) (heard_level front x)
       sent-own f h sent = OwnFront-bit f h.part front h.own h.goes_on x (eqb-false front.run 5 not_due) sent
 
-  -- at another place, to a sender
+  -- at another place, to a transmitter
   sent_bit-knows : (front : FrontParts) (f : Parts) (driven x : Level) → eqb front.run 5 ≡ false → HearsPart (Sender f) front levels → sent_level f (length front.unstuffed) ≡ driven
       → KnowsAfter (sent_bit_move (acting (Sender f)) f front driven x) (levels ++ x ∷ [])
   sent_bit-knows front f Dominant Dominant not_due h sent =

@@ -26,7 +26,7 @@ MacKnows m levels = Knows m.phase m.role levels
 
 -- one bit time
 module _ (m : MacState) (waiting : Option Parts) (x : Level) (levels : List Level) where
-  -- what it knows and tells then
+  -- what it knows and reports then
   abbrev KnowsThen : MacState → Option Event → Type 0
   KnowsThen n e = MacKnows n (levels ++ x ∷ []) × IsTold e (levels ++ x ∷ [])
 
@@ -50,7 +50,7 @@ module _ (m : MacState) (waiting : Option Parts) (x : Level) (levels : List Leve
         on_bus KnowsThen m waiting x on (λ d same. (after.knows, after.told)) (λ d same is_off. (tt, tt))
   ]
 
--- each event tells the truth of the levels up to it
+-- each event is true of the levels so far
 pub turns-told : (turns : List Turn) (m : MacState) (levels : List Level) → AreTurns turns → MacKnows m levels → (t : ℕ) (event : Option Event)
     → slice_get (turn_events m turns) t ≡ Some event → IsTold event (levels ++ take (suc t) (levels_of turns))
 turns-told [] m levels are h t event at = cc

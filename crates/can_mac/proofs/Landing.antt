@@ -1,4 +1,4 @@
--- What a bit time makes of a controller, from its fields: a move, and where it lands.
+-- The effect of a bit time on a controller, from its fields: a move, and its next state.
 use Rattle.std.proofs.Common.{◌≡◌, ◌≤◌, Bool, true, false, IsTrue, IsFalse, Option, Some, None, refl, sym, ◌∙◌, ap, subst, arith, cond}
 use Rattle.std.proofs.Math.Dec.{leb}
 use Rattle.std.proofs.lemmas.Bool.{cond-true, cond-false, le-leb, leb-true, or_left}
@@ -20,7 +20,7 @@ use Rattle.can_mac.proofs.Kept.{on_kept}
 abbrev pub gone : MacMove → ConfineParts → MacState
 gone v c = record { phase = BusOff; role = Receiver; overloads = v.overloads; counters = c }
 
--- Of a controller of these fields on the bus, where the move of a level lands.
+-- The next state after the move of a level, of a controller with these fields that is not bus off.
 module _ (m : MacState) (h : IsMac m) (on : is_off_phase m.phase ≡ false) (waiting : Option Parts) (whole : IsFrameOrNone waiting) (x : Level) where
   pub lands-IsMac : (passive : Bool) → passive ≡ is_passive m.counters → (kept : MacPhase) (next : Move (Option MacPhase))
       → move_keeping kept next ≡ move (record { passive = passive; role = m.role; overloads = m.overloads }) m.phase waiting x
@@ -32,7 +32,7 @@ module _ (m : MacState) (h : IsMac m) (on : is_off_phase m.phase ≡ false) (wai
 
 -- A controller whose fields are these, and which it is from outside.
 module _ (m now : MacState) (view : m ≡ now) (h : IsMac m) (on : is_off_phase now.phase ≡ false) (waiting : Option Parts) (whole : IsFrameOrNone waiting) (x : Level) where
-  -- where a level only makes another phase
+  -- if a level only changes the phase
   module _ (p : MacPhase) (is : (s : Stance) → s.role ≡ m.role → move s m.phase waiting x ≡ goes s p) where
     pub goes-on : (record { phase = p; role = m.role; overloads = m.overloads; counters = m.counters }, None) ≡ on_step now (move (stance now) now.phase waiting x)
     goes-on = ap (on_step m) (sym (is (stance m) refl)) ∙ ap (λ n. on_step n (move (stance n) n.phase waiting x)) view
@@ -40,7 +40,7 @@ module _ (m now : MacState) (view : m ≡ now) (h : IsMac m) (on : is_off_phase 
     pub goes-on-IsMac : IsMac (record { phase = p; role = m.role; overloads = m.overloads; counters = m.counters })
     goes-on-IsMac = subst (λ r. IsMac r.0) (sym goes-on) (on_kept now (subst IsMac view h) waiting x on whole)
 
--- a level that only makes another phase where it passes, and changes nothing where it doesn't
+-- a level that only changes the phase if it passes, and otherwise changes nothing
 pub passes-IsMac : (m : MacState) → IsMac m → (waiting : Option Parts) → IsFrameOrNone waiting → (x : Level) (passed : Bool) (p : MacPhase)
     → (IsTrue passed → (s : Stance) → s.role ≡ m.role → move s m.phase waiting x ≡ goes s p)
     → (IsTrue passed → is_off_phase m.phase ≡ false)
@@ -63,7 +63,7 @@ pub step_on : (m : MacState) (waiting : Option Parts) (x : Level) → is_off_pha
 unfolding mac_step
 step_on m waiting x h = cond-false (is_off_phase m.phase) (off_step m x) (on_step m (move (stance m) m.phase waiting x)) h
 
--- What a controller's state tells of whether it is error passive.
+-- The controller's state decides whether it is error passive.
 module _ (c : ConfineParts) where
   pub active_told : Active ≡ state_of c → false ≡ is_passive c
   active_told e = by_tests (is_bus_off c) (is_passive c) e

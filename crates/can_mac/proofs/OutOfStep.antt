@@ -24,24 +24,24 @@ use Rattle.can_mac.specs.Machine.{mac_drives, mac_step}
 abbrev pub receiver : MacPhase → Overloads → ConfineParts → MacState
 receiver phase overloads c = record { phase = phase; role = Receiver; overloads = overloads; counters = c }
 
--- the phases that it goes through, where so many recessive levels were the last
+-- the phases that it goes through, if this many recessive levels were the last
 pub data AwaitsRest : ℕ → MacPhase → Type 0 where
   passive_flag : (rest : ℕ) (last : Level) (run : ℕ) → AwaitsRest rest (PassiveFlag last run false)
   behind_flag : (rest : ℕ) (first : Bool) (dominant : ℕ) → AwaitsRest rest (AfterFlag first dominant)
   delimiter : (rest place : ℕ) → place ≤ rest → AwaitsRest rest (Delimiter place)
   intermission : (rest place : ℕ) → 8 + place ≤ rest → AwaitsRest rest (Intermission place)
 
--- as a frame begins it is as behind six recessive levels
+-- at the start of a frame it is as after six recessive levels
 pub waits-first : (phase : MacPhase) → IsBehindError phase → AwaitsRest 6 phase
 waits-first phase (inl flag) = subst (AwaitsRest 6) (sym flag.1.1) (passive_flag 6 flag.0 flag.1.0)
 waits-first phase (inr (inl behind)) = subst (AwaitsRest 6) (sym behind.1.1) (behind_flag 6 behind.0 behind.1.0)
 waits-first phase (inr (inr delim)) = subst (AwaitsRest 6) (sym delim.1.0) (delimiter 6 delim.0 (let few = delim.1.1 in omega (arith, few)))
 
--- nothing that it tells is of a frame
+-- it reports no event of a frame
 abbrev pub IsErrorOrNone : Option Event → Type 0
 IsErrorOrNone event = (event ≡ None) ⊎ ((kind : ErrorKind) × (event ≡ Some (Error kind)))
 
--- what a level makes of it, whatever waits: it drives nothing, tells of no frame, and stays error passive
+-- the effect of a level, with any pending frame: it drives recessive, reports no event of a frame, and stays error passive
 pub record Goes (phase : MacPhase) (overloads : Overloads) (c : ConfineParts) (x : Level) : Type 0 where
   pub next : MacPhase
   pub counters : ConfineParts

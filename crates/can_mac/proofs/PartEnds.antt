@@ -1,4 +1,4 @@
--- How the end of a stuffed part is told, and what its check sequence tells.
+-- When a stuffed part has ended, and what its CRC sequence means.
 use Rattle.std.proofs.Common.{◌≡◌, ◌≢◌, Bool, true, false, List, ◌↔◌, refl, sym, subst, ◌∙◌, ap, cond}
 use Rattle.std.specs.Prelude.{◌&&◌, not, IsTrue}
 use Rattle.std.specs.Bool.{Decides, one_answer}
@@ -17,7 +17,7 @@ use Rattle.can_mac.specs.declared.phase.Phase.TheVariants.{StuffedPart, CrcDelim
 use Rattle.can_mac.specs.Moves.{agrees, ends_part, part_phase, reading_of}
 use Rattle.can_frame.proofs.LevelTests.{same-Decides}
 
--- the stuffed part has ended exactly where the next place is the CRC delimiter
+-- the stuffed part has ended exactly if the next place is the CRC delimiter
 module _ (f : FrontParts) where
   pub ends_part-ended : next_place f ≡ ended → ends_part f ≡ true
   ends_part-ended h = by_tests (eqb f.run 5) (has_check f.unstuffed) h
@@ -36,7 +36,7 @@ module _ (f : FrontParts) where
       by_tests false true h = absurd (h refl)
       by_tests false false h = refl
 
--- there is one check sequence, so it is told by being it
+-- there is only one CRC sequence, so any correct one is equal to it
 pub agrees-Decides : (u : List Level) → Decides (agrees u) (IsCrc (head_of u) (check_of u))
 unfolding agrees
 agrees-Decides u =
@@ -47,7 +47,7 @@ agrees-Decides u =
 pub agrees-told : (u : List Level) (told : Bool) → (IsTrue told ↔ IsCrc (head_of u) (check_of u)) → told ≡ agrees u
 agrees-told u told h = one_answer told (agrees u) (h.0, h.1) (agrees-Decides u)
 
--- what is told where the stuffed part has ended
+-- what the unstuffed levels encode if the stuffed part has ended
 pub part_ended : (f : FrontParts) (frame : Parts) (told : Bool) → next_place f ≡ ended → frame ≡ frame_of f.unstuffed
     → (IsTrue told ↔ IsCrc (head_of f.unstuffed) (check_of f.unstuffed)) → CrcDelimiter (record { frame = frame; agrees = told }) ≡ part_phase f
 part_ended f frame told at_end same_frame check =

@@ -26,7 +26,7 @@ use Rattle.can_mac.specs.State.{MacPhase}
 use Rattle.can_mac.specs.Moves.{reading_of, ends_part, part_phase}
 use Rattle.can_mac.proofs.Hearing.{EndsIn, EndsIn-more, OwnFront, IsOwnFront, IsOwnPart, HearsPart, Knows}
 
--- a stuffed part ends where the CRC delimiter is next
+-- a stuffed part ends if the CRC delimiter is next
 ended-from_ends_part : (front : FrontParts) → ends_part front ≡ true → next_place front ≡ ended
 ended-from_ends_part front = by_tests (eqb front.run 5) (has_check front.unstuffed)
   where
@@ -36,7 +36,7 @@ ended-from_ends_part front = by_tests (eqb front.run 5) (has_check front.unstuff
     by_tests false true h = refl
     by_tests false false h = cc
 
--- and else it goes on
+-- and otherwise it continues
 goes_on-from_ends_part : (front : FrontParts) → ends_part front ≡ false → next_place front ≢ ended
 goes_on-from_ends_part front = by_tests (eqb front.run 5) (has_check front.unstuffed)
   where
@@ -51,7 +51,7 @@ pub stuffed_part-first : (f : Parts) → stuffed_part f ≡ Dominant ∷ drop 1 
 unfolding stuffed_part unstuffed stuffed head
 stuffed_part-first f = refl
 
--- so with it a sender has heard a front of its own
+-- so with it a transmitter has heard a front of its own
 pub OwnFront-first : (f : Parts) → IsFrame f → OwnFront f (Dominant ∷ []) first_front
 OwnFront-first f is = record {
   is = is;
@@ -62,7 +62,7 @@ OwnFront-first f is = record {
   front_is = sym (front_at-first f);
 }
 
--- where a sender's own stuffed part goes on
+-- if a transmitter's own stuffed part continues
 module _ (f : Parts) (part : List Level) (front : FrontParts) (own : OwnFront f part front) (goes_on : next_place front ≢ ended) where
   -- more of it follows
   pub OwnFront-more : own.o < length (stuffed_part f)
@@ -96,7 +96,7 @@ module _ (f : Parts) (part : List Level) (front : FrontParts) (own : OwnFront f 
       let sent = sent_bit f own.is own.o own.some OwnFront-more (λ five. other (ap (λ g. g.run) own.front_is ∙ five)) in
       own-next x (sym e ∙ ap (λ g. sent_level f (length g.unstuffed)) own.front_is ∙ sym sent)
 
--- where it has ended it is whole
+-- if it has ended it is whole
 IsOwnPart-ended : (role : Role) (part : List Level) (front : FrontParts) → next_place front ≡ ended → IsOwnFront role part front → IsOwnPart role part front.unstuffed
 IsOwnPart-ended Receiver part front at_end own = tt
 IsOwnPart-ended (Sender f) part front at_end own =

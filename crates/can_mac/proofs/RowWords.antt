@@ -1,4 +1,4 @@
--- The words of rows: levels as text, what they tell, and where they lead.
+-- Definitions for test vectors: levels as text, their events, and the state that they lead to.
 use Rattle.std.proofs.Common.{◌≡◌, ℕ, ◌+◌, ◌-◌, List, [], ◌∷◌, map, replicate, Option, Some, None, false, true}
 use Rattle.std.specs.Prelude.{codes}
 use Rattle.can_frame.specs.declared.level.Level.{Level}
@@ -18,7 +18,7 @@ levels_of text = map (λ c. level_of (c - 48)) text
 abbrev pub silence : ℕ → List Level
 silence n = replicate n Recessive
 
--- what was told, and when
+-- the events, with their times
 pub record Told : Type 0 where
   pub time : ℕ
   pub event : Event
@@ -30,7 +30,7 @@ abbrev pub with_told : ℕ → Option Event → List Told → List Told
 with_told time None told = told
 with_told time (Some event) told = at time event ∷ told
 
--- the events of a run that begins at this time, where this frame waits
+-- the events of a run that begins at this time, with this pending frame
 abbrev pub events : ℕ → Option Parts → MacState → List Level → List Told
 events time waiting m [] = []
 events time waiting m (x ∷ levels) = with_told time (mac_step m waiting x).1 (events (time + 1) waiting (mac_step m waiting x).0 levels)
@@ -40,7 +40,7 @@ abbrev pub run : Option Parts → MacState → List Level → MacState
 run waiting m [] = m
 run waiting m (x ∷ levels) = run waiting (mac_step m waiting x).0 levels
 
--- A row: where this frame waits, these levels, given as text, tell this from time 0 on, and lead to this state.
+-- A test vector: with this pending frame, these levels, given as text, cause these events from time 0 on, and lead to this state.
 abbrev pub Leads : Option Parts → MacState → List ℕ → List Told → MacState → Type 0
 Leads waiting before text told after = (events 0 waiting before (levels_of text) ≡ told) × (run waiting before (levels_of text) ≡ after)
 
@@ -71,7 +71,7 @@ part_001 = codes "0000010000010100000100010001000010011"
 abbrev pub tail : List ℕ
 tail = codes "1011111111"
 
--- what a receiver has read of it, where its check sequence agrees and where it doesn't
+-- what a receiver has read of it, with a correct and a wrong CRC sequence
 abbrev pub read_001 : Reading
 read_001 = record { frame = frame_001; agrees = true }
 
@@ -87,7 +87,7 @@ receiver phase = record idle { phase = phase }
 abbrev pub sender_of : Parts → MacPhase → MacState
 sender_of f phase = record idle { phase = phase; role = Sender f }
 
--- the sender of frame 001
+-- the transmitter of frame 001
 abbrev pub sender : MacPhase → MacState
 sender phase = sender_of frame_001 phase
 
@@ -97,6 +97,6 @@ with_tec n m = record m { counters = record m.counters { tec = n } }
 abbrev pub with_rec : ℕ → MacState → MacState
 with_rec n m = record m { counters = record m.counters { rec = n } }
 
--- with so many overload frames of its own asked for, and so many used
+-- with this many overload frames requested, and this many started
 abbrev pub with_overloads : ℕ → ℕ → MacState → MacState
 with_overloads pending used m = record m { overloads = record { pending = pending; used = used } }

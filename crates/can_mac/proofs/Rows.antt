@@ -137,7 +137,7 @@ lost_starts_again : mac_drives (lost_at 53) waiting_001 ≡ Dominant
 unfolding mac_step mac_drives agrees crc_of frame_of frame_len bits_of unstuffed head arbitration_field
 lost_starts_again = refl
 
--- Dominant levels behind flags, and in delimiters.
+-- Dominant levels after flags, and in delimiters.
 abbrev rough : List Level
 rough = part_001 ++ (replicate 15 Dominant ++ (silence 7 ++ (replicate 7 Dominant ++ (silence 8 ++ (replicate 7 Dominant ++ (silence 1 ++ (replicate 7 Dominant ++ silence 11)))))))
 
@@ -160,7 +160,7 @@ rough_idle = refl
 abbrev errs_once : List Level → List Told → Type 0
 errs_once levels told = (events 0 None idle levels ≡ told) × ((run None idle levels).counters ≡ record fresh { rec = 1 })
 
--- the last level of the check sequence is dominant
+-- the last level of the CRC sequence is dominant
 abbrev wrong_check : List Level
 wrong_check = take 36 part_001 ++ levels_of (codes "010")
 
@@ -182,7 +182,7 @@ wrong_form : errs_once (part_001 ++ levels_of (codes "100")) (at 39 (Error Form)
 unfolding mac_step agrees crc_of frame_of frame_len bits_of
 wrong_form = (refl, refl)
 
--- the receiver's own acknowledgement is not on the bus
+-- the receiver's own acknowledgment is not on the bus
 wrong_slot : errs_once (part_001 ++ levels_of (codes "11")) (at 38 (Error Bit) ∷ [])
 unfolding mac_step agrees crc_of frame_of frame_len bits_of
 wrong_slot = (refl, refl)

@@ -1,5 +1,5 @@
--- What a controller does between frames, and off the bus, on levels whose outcome is known. What stands in
--- brackets is the rule of docs/ACCESS.md that a row pins.
+-- Hand-computed test vectors of a controller between frames, and during bus off. Brackets name the rule of docs/ACCESS.md that a vector
+-- checks.
 use Rattle.std.proofs.Common.{◌≡◌, ℕ, [], ◌∷◌, ◌++◌, map, replicate, drop, Some, None, refl, true, false}
 use Rattle.std.specs.Prelude.{codes}
 use Rattle.can_frame.specs.declared.level.Level.TheVariants.{Dominant, Recessive}
@@ -17,13 +17,12 @@ use Rattle.can_mac.specs.Moves.{agrees}
 use Rattle.can_mac.specs.Machine.{mac_drives, mac_step}
 use Rattle.can_mac.proofs.RowWords.{Leads, at, each, frame_001, part_001, read_001, receiver, sender, sender_of, standard, tail, with_overloads, with_rec, with_tec}
 
--- off the bus with a TEC of 256, so many occurrences of eleven recessive levels, and so many levels in a row
--- since the last
+-- bus off with a TEC of 256, this many occurrences of eleven recessive levels, and this many levels in a row since the last
 abbrev off_with : ℕ → ℕ → MacState
 off_with occurrences row = record idle { phase = BusOff; counters = record { tec = 256; rec = 0; occurrences = occurrences; row = row } }
 
--- [Joining] Idle with the eleventh recessive level in a row; a dominant one begins the row anew. Until then the
--- controller is silent, whatever waits.
+-- [Joining] Idle with the eleventh recessive level in a row; a dominant one restarts the row. Until then the controller drives recessive,
+-- with any pending frame.
 
 ten_while_joining : Leads (Some frame_001) joining (codes "1111111111") [] (receiver (Joining 10))
 unfolding mac_step
@@ -45,8 +44,8 @@ silent_while_joining : mac_drives (receiver (Joining 10)) (Some frame_001) ≡ R
 unfolding mac_drives
 silent_while_joining = refl
 
--- [Start of frame] An idle controller drives dominant exactly where a frame waits. A dominant level makes it the
--- sender of that frame, or a receiver. Its own start of frame, seen recessive, is a bit error of a sender.
+-- [Start of frame] An idle controller drives dominant exactly if it has a pending frame. A dominant level makes it the transmitter of
+-- that frame, or a receiver. Its own start of frame, seen recessive, is a bit error of a transmitter.
 
 idle_and_a_frame_waits : mac_drives idle (Some frame_001) ≡ Dominant
 unfolding mac_drives
@@ -76,8 +75,8 @@ start_of_frame_overridden_passive : Leads (Some frame_001) (with_tec 128 idle) (
 unfolding mac_step
 start_of_frame_overridden_passive = (refl, refl)
 
--- [Own overload frames] With each start of frame, whichever phase it ends, the count of those that were started is
--- 0 again; those asked for stay so. So it is where the controller sends and where it receives.
+-- [Own overload frames] With each start of frame, in any phase, the count of those that were started is 0 again; the requests stay. This
+-- holds whether the controller sends or receives.
 
 overloads_forgotten_by_a_receiver : Leads None (with_overloads 1 2 idle) (codes "0") [] (with_overloads 1 0 (receiver (StuffedPart first_front)))
 unfolding mac_step
@@ -99,7 +98,7 @@ overloads_kept_while_idle : Leads None (with_overloads 1 2 (receiver (Intermissi
 unfolding mac_step
 overloads_kept_while_idle = (refl, refl)
 
--- [Kept frame] A sender of frame 001 has sent its start of frame. From then on frame 000 waits, or nothing: it
+-- [Kept frame] A transmitter of frame 001 has sent its start of frame. From then on frame 000 waits, or nothing: it
 -- sends frame 001 all the same.
 
 kept_while_another_waits : Leads (Some (standard 0)) (sender (StuffedPart first_front)) (drop 1 part_001 ++ tail) (at 45 (Sent frame_001) ∷ []) (sender (Intermission 0))
@@ -110,8 +109,8 @@ kept_while_nothing_waits : Leads None (sender (StuffedPart first_front)) (drop 1
 unfolding mac_step agrees crc_of frame_of frame_len bits_of unstuffed head arbitration_field
 kept_while_nothing_waits = (refl, refl)
 
--- [Intermission] Three recessive levels, in which nobody drives a start of frame. Behind them the controller is
--- idle, and no sender any more.
+-- [Intermission] Three recessive levels, in which no controller drives a start of frame. Afterwards the controller is idle, and no longer
+-- a transmitter.
 
 intermission_of_a_receiver : Leads (Some frame_001) (receiver (Intermission 0)) (codes "111") [] idle
 unfolding mac_step
@@ -134,8 +133,7 @@ dominant_in_intermission_sender : each sender (λ place. Intermission place) Dom
 unfolding mac_step
 dominant_in_intermission_sender = refl
 
--- At its third place it is a start of frame: of the frame that waits, else one to receive. An error passive receiver
--- may send too.
+-- A dominant third level is a start of frame: of the pending frame, or of one to receive. An error passive receiver may send too.
 start_in_intermission_receiver : Leads None (receiver (Intermission 0)) (codes "110") [] (receiver (StuffedPart first_front))
 unfolding mac_step
 start_in_intermission_receiver = (refl, refl)
@@ -161,8 +159,8 @@ first_bit_of_the_identifier_dominant : mac_drives (sender_of (standard 0) (Stuff
 unfolding mac_drives mac_step unstuffed head arbitration_field crc_of bits_of
 first_bit_of_the_identifier_dominant = refl
 
--- [Suspend transmission] An error passive sender waits eight recessive levels more, silent, and is idle with the
--- eighth. A receiver doesn't, nor an error active sender (above).
+-- [Suspend transmission] An error passive transmitter waits eight recessive levels more, silent, and is idle with the
+-- eighth. A receiver doesn't, nor an error active transmitter (above).
 
 suspend_begins : Leads (Some frame_001) (with_tec 128 (sender (Intermission 0))) (codes "111") [] (with_tec 128 (sender (Suspend 0)))
 unfolding mac_step
@@ -188,7 +186,7 @@ suspend_driven : map (λ place. mac_drives (with_tec 128 (sender (Suspend place)
 unfolding mac_drives
 suspend_driven = refl
 
--- A frame that begins meanwhile it receives, though it has one to send; so too in the last bit of intermission.
+-- It receives a frame that begins in that time, although it has one to send; also in the last bit of intermission.
 start_in_suspend : each (λ phase. with_tec 128 (sender phase)) (λ place. Suspend place) Dominant (0 ∷ 1 ∷ 2 ∷ 3 ∷ 4 ∷ 5 ∷ 6 ∷ 7 ∷ []) ≡ replicate 8 (with_tec 128 (receiver (StuffedPart first_front)), None)
 unfolding mac_step
 start_in_suspend = refl
@@ -205,9 +203,9 @@ held_back_in_intermission_passive_by_rec : Leads (Some frame_001) (with_rec 128 
 unfolding mac_step
 held_back_in_intermission_passive_by_rec = (refl, refl)
 
--- [Bus off] What takes the TEC to 256 or more is told as `WentOff`, in place of the error: in a frame of its own,
--- and in its end; in an own overload flag; behind a flag, with the eighth dominant level; in a passive flag without
--- acknowledgement. At 255 the sender is error passive.
+-- [Bus off] If the TEC becomes 256 or more, `WentOff` is reported in place of the error: in a frame of its own, and in its end; in an own
+-- overload flag; after a flag, with the eighth dominant level; in a passive flag without acknowledgment. At 255 the transmitter is error
+-- passive.
 
 off_in_a_frame : Leads None (with_tec 250 (sender (StuffedPart first_front))) (codes "1") (at 0 WentOff ∷ []) (with_tec 258 (receiver BusOff))
 unfolding mac_step agrees crc_of frame_of frame_len bits_of unstuffed head arbitration_field
@@ -233,8 +231,8 @@ off_without_acknowledgement : Leads None (with_tec 248 (sender (PassiveFlag Rece
 unfolding mac_step
 off_without_acknowledgement = (refl, refl)
 
--- [Bus off] Off the bus it is silent, and takes part in nothing: levels count for recovery alone. The eleventh in a
--- row is an occurrence; with the 128th it is idle, its counters are 0, and `Recovered` is told.
+-- [Bus off] During bus off it drives recessive and takes part in nothing: levels count for recovery alone. The eleventh in a row is an
+-- occurrence; with the 128th it is idle, its counters are 0, and `Recovered` is reported.
 
 silent_while_off : mac_drives (with_tec 256 (receiver BusOff)) (Some frame_001) ≡ Recessive
 unfolding mac_drives

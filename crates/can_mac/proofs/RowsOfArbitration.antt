@@ -1,5 +1,4 @@
--- Arbitration and stuff bits on levels whose outcome is known. What stands in brackets is the rule of
--- docs/ACCESS.md that a row pins.
+-- Hand-computed test vectors of arbitration and stuff bits. Brackets name the rule of docs/ACCESS.md that a vector checks.
 use Rattle.std.proofs.Common.{◌≡◌, ℕ, List, [], ◌∷◌, ◌++◌, take, Option, Some, None, refl, true}
 use Rattle.std.specs.Prelude.{codes}
 use Rattle.can_frame.specs.declared.level.Level.{Level}
@@ -21,22 +20,22 @@ use Rattle.can_mac.specs.Moves.{agrees}
 use Rattle.can_mac.specs.Machine.{mac_drives, mac_step}
 use Rattle.can_mac.proofs.RowWords.{Told, at, events, extended, levels_of, part_001, read_001, remote, run, standard, tail}
 
--- what levels, given as text, tell an idle controller, and what it is and has counted behind them
+-- the events that levels, given as text, cause at an idle controller, and its state and counters afterwards
 abbrev comes_to : Option Parts → List ℕ → List Told × Role × ConfineParts
 comes_to waiting text = (events 0 waiting idle (levels_of text), (run waiting idle (levels_of text)).role, (run waiting idle (levels_of text)).counters)
 
--- where this frame waits, and where none does
+-- with this pending frame, and without one
 abbrev sending : Parts → List ℕ → List Told × Role × ConfineParts
 sending f text = comes_to (Some f) text
 
 abbrev receiving : List ℕ → List Told × Role × ConfineParts
 receiving text = comes_to None text
 
--- what levels tell the sender of this frame, and what it drives behind them
+-- the events that levels cause at the transmitter of this frame, and what it drives afterwards
 abbrev drives_behind : Parts → List ℕ → List Told × Level
 drives_behind f text = (events 0 (Some f) idle (levels_of text), mac_drives (run (Some f) idle (levels_of text)) None)
 
--- one error of a sender
+-- one error of a transmitter
 abbrev by_8 : ConfineParts
 by_8 = record fresh { tec = 8 }
 
@@ -79,9 +78,8 @@ lost_at_rtr_of_an_extended_frame : sending (remote (extended 0x048c0000)) (codes
 unfolding mac_step unstuffed head arbitration_field crc_of bits_of frame_len
 lost_at_rtr_of_an_extended_frame = refl
 
--- [Arbitration] Any other difference is a bit error: a dominant level of the identifier, of RTR or of IDE that is seen
--- recessive; and just behind arbitration, where the reserved bits are dominant and the DLC is the first that can be
--- overridden.
+-- [Arbitration] Any other difference is a bit error: a dominant level of the identifier, of RTR or of IDE that is seen recessive; and
+-- right after arbitration, where the reserved bits are dominant and the DLC is the first that can be overridden.
 
 identifier_not_on_the_bus : sending (standard 1) (codes "01") ≡ (at 1 (Error Bit) ∷ [], Sender (standard 1), by_8)
 unfolding mac_step unstuffed head arbitration_field crc_of bits_of frame_len
@@ -107,7 +105,7 @@ goes_on_where_its_levels_are_on_the_bus : sending (standard 1) (codes "000001000
 unfolding mac_step unstuffed head arbitration_field crc_of bits_of frame_len
 goes_on_where_its_levels_are_on_the_bus = refl
 
--- The loser goes on as a receiver of the frame that won, and drives its acknowledgement.
+-- The loser continues as a receiver of the frame that won, and drives its acknowledgment.
 loser_receives : sending (remote (standard 0)) wire_000 ≡ (at 14 Lost ∷ at 48 (Received (standard 0)) ∷ [], Receiver, fresh)
 unfolding mac_step agrees crc_of frame_of frame_len bits_of unstuffed head arbitration_field
 loser_receives = refl
@@ -116,8 +114,8 @@ loser_acknowledges : drives_behind (remote (standard 0)) (take 41 wire_000) ≡ 
 unfolding mac_step agrees crc_of frame_of frame_len bits_of unstuffed head arbitration_field mac_drives
 loser_acknowledges = refl
 
--- [Stuff places] Behind five equal levels, among which a stuff bit counts too, a sender drives the opposite. A level
--- that repeats the five is a stuff error, to receiver and sender.
+-- [Stuff places] After five equal levels, stuff bits included, a transmitter drives the opposite. A level that repeats the five is a
+-- stuff error, at receiver and transmitter.
 
 stuff_bit_driven_recessive : drives_behind (standard 0) (codes "00000") ≡ ([], Recessive)
 unfolding mac_step mac_drives unstuffed head arbitration_field crc_of bits_of frame_len
@@ -147,13 +145,13 @@ sixth_with_a_stuff_bit_received : receiving (codes "00000111111") ≡ (at 10 (Er
 unfolding mac_step frame_len
 sixth_with_a_stuff_bit_received = refl
 
--- A sender's dominant stuff bit, seen recessive, counts 8 in arbitration too.
+-- A transmitter's dominant stuff bit, seen recessive, counts 8 in arbitration too.
 dominant_stuff_bit_not_on_the_bus : sending (standard 0x7ff) (codes "0111111") ≡ (at 6 (Error Stuff) ∷ [], Sender (standard 0x7ff), by_8)
 unfolding mac_step unstuffed head arbitration_field crc_of bits_of frame_len
 dominant_stuff_bit_not_on_the_bus = refl
 
--- [Overridden stuff bit] A sender's recessive stuff bit, seen dominant, counts nothing before RTR, with 12 or 32
--- unstuffed levels before it, and 8 behind RTR. It loses no arbitration.
+-- [Overridden stuff bit] A transmitter's recessive stuff bit, seen dominant, counts nothing before RTR, with 12 or 32 unstuffed levels
+-- before it, and 8 after RTR. It does not lose arbitration.
 
 overridden_before_rtr : sending (standard 0x560) (codes "0101011000000") ≡ (at 12 (Error Stuff) ∷ [], Sender (standard 0x560), fresh)
 unfolding mac_step unstuffed head arbitration_field crc_of bits_of frame_len
@@ -171,8 +169,8 @@ overridden_behind_rtr_of_an_extended_frame : sending (extended 0x15555550) (code
 unfolding mac_step unstuffed head arbitration_field crc_of bits_of frame_len
 overridden_behind_rtr_of_an_extended_frame = refl
 
--- [End of the stuffed part] The check sequence of frame 009 ends with five dominant levels: a stuff bit follows, and
--- then the CRC delimiter. That of frame 001 ends with none.
+-- [End of the stuffed part] The CRC sequence of frame 009 ends with five dominant levels: a stuff bit follows, and then the CRC
+-- delimiter. That of frame 001 ends with none.
 
 stuff_bit_behind_the_check_sequence : drives_behind (standard 9) (take 38 part_009) ≡ ([], Recessive)
 unfolding mac_step agrees crc_of frame_of frame_len bits_of unstuffed head arbitration_field mac_drives

@@ -1,5 +1,5 @@
--- Error flags, overload flags and their delimiters on levels whose outcome is known. What stands in brackets is
--- the rule of docs/ACCESS.md that a row pins.
+-- Hand-computed test vectors of error flags, overload flags and their delimiters. Brackets name the rule of docs/ACCESS.md that a vector
+-- checks.
 use Rattle.std.proofs.Common.{◌≡◌, [], ◌∷◌, map, replicate, Some, None, refl, false, true}
 use Rattle.std.specs.Prelude.{codes}
 use Rattle.can_frame.specs.declared.level.Level.TheVariants.{Dominant, Recessive}
@@ -41,8 +41,8 @@ passive_at_a_rec_of_128 : Leads None (with_rec 128 (receiver (CrcDelimiter read_
 unfolding mac_step
 passive_at_a_rec_of_128 = (refl, refl)
 
--- [Error flags] A passive flag is recessive, and complete with six equal levels in a row: recessive ones, dominant
--- ones, and behind a level of the other kind six more. The level before the flag isn't one of them.
+-- [Error flags] A passive flag is recessive, and complete with six equal levels in a row: recessive ones, dominant ones, and after a
+-- level of the other kind six more. The level before the flag is not one of them.
 
 passive_flag_driven : mac_drives (receiver (PassiveFlag Recessive 3 false)) None ≡ Recessive
 unfolding mac_drives
@@ -96,8 +96,8 @@ overload_flag_driven_passive : mac_drives (with_rec 128 (receiver (OverloadFlag 
 unfolding mac_drives
 overload_flag_driven_passive = refl
 
--- [Behind a flag] At a receiver the first level behind an error flag, active or passive, counts 8 where it is
--- dominant. Behind an overload flag it counts nothing, and at a sender it never does.
+-- [Behind a flag] At a receiver the first level after an error flag, active or passive, counts 8 if it is dominant. After an overload
+-- flag it counts nothing, and at a transmitter it never does.
 
 first_dominant_behind_an_active_flag : Leads None (receiver (ErrorFlag 0)) (codes "0000000") [] (with_rec 8 (receiver (AfterFlag false 1)))
 unfolding mac_step
@@ -127,8 +127,8 @@ first_dominant_at_a_sender_behind_an_overload_flag : Leads None (sender (Overloa
 unfolding mac_step
 first_dominant_at_a_sender_behind_an_overload_flag = (refl, refl)
 
--- [Behind a flag] Each eighth dominant level in a row counts 8 more, behind each kind of flag, at receiver and
--- sender. The six of the flag aren't among them; the first one behind it is.
+-- [Behind a flag] Every eighth dominant level in a row counts 8 more, after each kind of flag, at receiver and transmitter. The six of
+-- the flag are not among them; the first one after it is.
 
 seventh_dominant_behind_an_error_flag : Leads None (receiver (ErrorFlag 0)) (codes "0000000000000") [] (with_rec 8 (receiver (AfterFlag false 7)))
 unfolding mac_step
@@ -178,8 +178,8 @@ eighth_dominant_at_a_sender_behind_an_overload_flag : Leads None (sender (Overlo
 unfolding mac_step
 eighth_dominant_at_a_sender_behind_an_overload_flag = (refl, refl)
 
--- [Delimiter] Eight recessive levels behind each kind of flag, and behind dominant levels that follow it: with the
--- eighth intermission is entered, and not with the seventh.
+-- [Delimiter] Eight recessive levels after each kind of flag, and after dominant levels that follow it: intermission begins with the
+-- eighth, and not with the seventh.
 
 delimiter_behind_an_active_flag : Leads None (receiver (ErrorFlag 0)) (codes "00000011111111") [] (receiver (Intermission 0))
 unfolding mac_step
@@ -214,7 +214,7 @@ unfolding mac_step
 delimiter_at_a_sender = (refl, refl)
 
 -- [Delimiter] At its places 2 to 7, which have 1 to 6 levels before them, a dominant level is a form error, to
--- receiver and sender. At the eighth place it is an overload condition, which counts nothing.
+-- receiver and transmitter. At the eighth place it is an overload condition, which counts nothing.
 
 broken_delimiter_receiver : each receiver (λ place. Delimiter place) Dominant (1 ∷ 2 ∷ 3 ∷ 4 ∷ 5 ∷ 6 ∷ []) ≡ replicate 6 (with_rec 1 (receiver (ErrorFlag 0)), Some (Error Form))
 unfolding mac_step
@@ -250,8 +250,8 @@ overload_flag_of_a_sender : Leads None (sender (OverloadFlag 0)) (codes "000000"
 unfolding mac_step
 overload_flag_of_a_sender = (refl, refl)
 
--- [Own overload frames] A receiver that asked for two starts one as it enters intermission, behind a frame and
--- behind a delimiter, and one more behind that. A third one asked for in between waits for the next frame.
+-- [Own overload frames] A receiver that asked for two starts one when it enters intermission, after a frame and after a delimiter, and
+-- one more after that. A third one, requested in between, waits for the next frame.
 
 own_overload_behind_a_frame : Leads None (with_overloads 2 0 (receiver (EndOfFrame read_001 6))) (codes "1") (at 0 Overload ∷ []) (with_overloads 1 1 (receiver (OverloadFlag 0)))
 unfolding mac_step
@@ -273,12 +273,12 @@ both_overloads : Leads None (with_overloads 2 0 (receiver (EndOfFrame read_001 6
 unfolding mac_step
 both_overloads = (refl, refl)
 
--- A sender starts none; what it asked for stays.
+-- A transmitter starts none; what it asked for stays.
 no_overload_of_a_sender : Leads None (with_overloads 2 0 (sender (EndOfFrame read_001 6))) (codes "1") (at 0 (Sent frame_001) ∷ []) (with_overloads 2 0 (sender (Intermission 0)))
 unfolding mac_step
 no_overload_of_a_sender = (refl, refl)
 
--- What is driven in answer to another's dominant level is none of its own.
+-- An overload flag in response to another's dominant level is not a requested one.
 overload_of_another : Leads None (with_overloads 1 0 (receiver (Intermission 1))) (codes "0") (at 0 Overload ∷ []) (with_overloads 1 0 (receiver (OverloadFlag 0)))
 unfolding mac_step
 overload_of_another = (refl, refl)

@@ -1,5 +1,5 @@
--- The end of a frame on levels whose outcome is known: from the CRC delimiter to the last level. What stands
--- in brackets is the rule of docs/ACCESS.md that a row pins.
+-- Hand-computed test vectors of the end of a frame, from the CRC delimiter to the last level. Brackets name the rule of docs/ACCESS.md
+-- that a vector checks.
 use Rattle.std.proofs.Common.{◌≡◌, [], ◌∷◌, ◌++◌, map, replicate, take, Some, None, refl, true, false}
 use Rattle.std.specs.Prelude.{codes}
 use Rattle.can_frame.specs.declared.level.Level.TheVariants.{Dominant, Recessive}
@@ -16,8 +16,8 @@ use Rattle.can_mac.specs.Moves.{agrees}
 use Rattle.can_mac.specs.Machine.{mac_drives, mac_step}
 use Rattle.can_mac.proofs.RowWords.{Leads, at, each, frame_001, part_001, read_001, receiver, refused_001, sender, tail, with_rec, with_tec}
 
--- Where the states of these rows come from: the stuffed part of frame 001, at its sender, at a receiver, and,
--- with the last level of the check sequence wrong, at a receiver.
+-- The first states of these vectors: after the stuffed part of frame 001, at its transmitter, at a receiver, and, with the last level of
+-- the CRC sequence wrong, at a receiver.
 
 sender_behind_the_part : Leads (Some frame_001) idle part_001 [] (sender (CrcDelimiter read_001))
 unfolding mac_step agrees crc_of frame_of frame_len bits_of unstuffed head arbitration_field
@@ -32,7 +32,7 @@ unfolding mac_step agrees crc_of frame_of frame_len bits_of
 refusing_behind_the_part = (refl, refl)
 
 -- [Fixed form] A dominant CRC delimiter or ACK delimiter is a form error to a receiver, who counts 1, and a bit
--- error to the sender, who counts 8.
+-- error to the transmitter, who counts 8.
 
 crc_delimiter_received : Leads None (receiver (CrcDelimiter read_001)) (codes "0") (at 0 (Error Form) ∷ []) (with_rec 1 (receiver (ErrorFlag 0)))
 unfolding mac_step
@@ -50,7 +50,7 @@ ack_delimiter_sent : Leads None (sender (AckDelimiter read_001)) (codes "0") (at
 unfolding mac_step
 ack_delimiter_sent = (refl, refl)
 
--- [Fixed form], [Frame validation] In the end of frame a dominant level is a bit error to the sender at each of
+-- [Fixed form], [Frame validation] In the end of frame a dominant level is a bit error to the transmitter at each of
 -- its seven places, and a form error to a receiver at the first six.
 
 end_of_frame_sent : each sender (λ place. EndOfFrame read_001 place) Dominant (0 ∷ 1 ∷ 2 ∷ 3 ∷ 4 ∷ 5 ∷ 6 ∷ []) ≡ replicate 7 (with_tec 8 (sender (ErrorFlag 0)), Some (Error Bit))
@@ -66,8 +66,8 @@ last_level_received : Leads None (receiver (EndOfFrame read_001 6)) (codes "0") 
 unfolding mac_step
 last_level_received = (refl, refl)
 
--- [Frame validation] The sender tells its frame with the seventh level of the end of frame, and counts it then: its
--- TEC falls by 1. A receiver tells it with the sixth; its REC has fallen by 1 with the ACK slot.
+-- [Frame validation] The transmitter reports its frame with the seventh level of the end of frame, and counts it then: its TEC falls by
+-- 1. A receiver reports it with the sixth; its REC has fallen by 1 with the ACK slot.
 
 sent_and_counted : Leads None (with_tec 5 (sender (CrcDelimiter read_001))) tail (at 9 (Sent frame_001) ∷ []) (with_tec 4 (sender (Intermission 0)))
 unfolding mac_step
@@ -98,8 +98,8 @@ counted_above_127 : Leads None (with_rec 200 (receiver (CrcDelimiter read_001)))
 unfolding mac_step
 counted_above_127 = (refl, refl)
 
--- [Acknowledgement] In the ACK slot a receiver drives dominant where the check sequence agrees, and else listens;
--- the sender listens. All three are silent in both delimiters and in the end of frame.
+-- [Acknowledgement] In the ACK slot a receiver that found the CRC sequence right drives dominant; another one, and the transmitter, drive
+-- recessive. All three drive recessive in both delimiters and in the end of frame.
 
 receiver_acknowledges : mac_drives (receiver (AckSlot read_001)) None ≡ Dominant
 unfolding mac_drives
@@ -126,7 +126,7 @@ sender_acknowledged : Leads None (with_tec 5 (sender (AckSlot read_001))) (codes
 unfolding mac_step
 sender_acknowledged = (refl, refl)
 
--- Nobody acknowledged: 8 at an error active sender.
+-- Nobody acknowledged: 8 at an error active transmitter.
 sender_unacknowledged : Leads None (sender (AckSlot read_001)) (codes "1") (at 0 (Error Ack) ∷ []) (with_tec 8 (sender (ErrorFlag 0)))
 unfolding mac_step
 sender_unacknowledged = (refl, refl)
@@ -168,8 +168,8 @@ other_passive_flag_dominant : Leads None (with_tec 136 (sender (PassiveFlag Rece
 unfolding mac_step
 other_passive_flag_dominant = (refl, refl)
 
--- [Refused check sequence] The ACK slot has no say, and no reception is counted with it. The CRC error is told
--- with the ACK delimiter; where that is dominant the form error alone is.
+-- [Refused check sequence] The ACK slot has no influence, and no reception is counted with it. The CRC error is reported with the ACK
+-- delimiter; if that is dominant, only the form error is.
 
 refused_slot_dominant : Leads None (with_rec 5 (receiver (AckSlot refused_001))) (codes "0") [] (with_rec 5 (receiver (AckDelimiter refused_001)))
 unfolding mac_step

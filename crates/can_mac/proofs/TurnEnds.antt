@@ -1,4 +1,4 @@
--- Where a bit time ends: at its move's phase, or off the bus.
+-- The state after a bit time: that of its move, or bus off.
 use Rattle.std.proofs.Common.{◌≡◌, Bool, true, false, Option, Some, None, refl, sym, subst, cond}
 use Rattle.can_frame.specs.declared.level.Level.{Level}
 use Rattle.can_frame.specs.Parts.{Parts}
@@ -54,7 +54,7 @@ step_counting_at P v c (Some cause) on off = by_test (is_bus_off (counted cause 
     by_test true e = off d (counted-wait cause c) e
     by_test false e = on d (counted-wait cause c)
 
--- on the bus, a bit time ends where its move lands
+-- if the controller is not bus off, a bit time ends in the state after its move
 pub on_bus : (P : MacState → Option Event → Type 0) (m : MacState) (waiting : Option Parts) (x : Level) → is_off_phase m.phase ≡ false
     → ((d : ConfineParts) → SameWait m.counters d → P (state_after_move (move (stance m) m.phase waiting x) d) (move (stance m) m.phase waiting x).event)
     → ((d : ConfineParts) → SameWait m.counters d → is_bus_off d ≡ true → P (gone (move (stance m) m.phase waiting x) d) (Some WentOff))

@@ -15,7 +15,7 @@ pub record Turn : Type 0 where
 abbrev pub levels_of : List Turn → List Level
 levels_of = map (λ t. t.seen)
 
--- what a bit time makes of a controller, and what it tells
+-- the effect of a bit time on a controller, and its event
 abbrev pub after_turn : MacState → Turn → MacState
 after_turn m t = (mac_step m t.waiting t.seen).0
 

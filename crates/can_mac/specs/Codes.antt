@@ -1,5 +1,4 @@
--- The numbers by which callers that aren't Rust know what a bit time brought and what kind of error was detected.
--- They are those of bindings/riddlesage.h.
+-- The numbers of events and of kinds of error, for callers in other languages. They are those of bindings/riddlesage.h.
 use Rattle.std.specs.Prelude.{ℕ, Option, Some, None}
 use Rattle.can_mac.specs.declared.event.ErrorKind.{ErrorKind}
 use Rattle.can_mac.specs.declared.event.ErrorKind.TheVariants.{Bit, Stuff, Crc, Form, Ack}

@@ -1,6 +1,5 @@
--- Medium access, one bit time after another: what a controller drives, and what the level that it samples
--- makes of it. (Bosch CAN 2.0 part B, sections 3.2 and 7) What stands in
--- brackets is a rule of docs/ACCESS.md.
+-- Medium access, bit time by bit time: what a controller drives, and its next state for the level that it samples. (Bosch CAN 2.0 part B,
+-- sections 3.2 and 7) Brackets name rules of docs/ACCESS.md.
 use Rattle.std.specs.Prelude.{ℕ, ◌==◌, Bool, if◌then◌else◌, length, Option, Some, None}
 use Rattle.can_frame.specs.declared.level.Level.{Level}
 use Rattle.can_frame.specs.declared.level.Level.TheVariants.{Dominant, Recessive}
@@ -20,21 +19,22 @@ use Rattle.can_mac.specs.declared.phase.Phase.TheVariants.{Joining, Idle, Stuffe
 use Rattle.can_mac.specs.State.{MacPhase, MacState, is_off_phase}
 use Rattle.can_mac.specs.Moves.{MacMove, move}
 
--- [Stuff places] there a sender drives the opposite of the last level, else its frame's next level
+-- [Stuff places] after five equal levels a transmitter drives the opposite one, otherwise the next level of its frame
 abbrev pub part_drives : Role → FrontParts → Level
 part_drives Receiver front = Recessive
 part_drives (Sender f) front = if front.run == 5 then opposite front.last else sent_level f (length front.unstuffed)
 
--- [Acknowledgement] a receiver whose check sequence agrees acknowledges
+-- [Acknowledgement] a receiver that found the CRC sequence right drives dominant
 abbrev pub slot_drives : Role → Bool → Level
 slot_drives Receiver agrees = if agrees then Dominant else Recessive
 slot_drives (Sender f) agrees = Recessive
 
--- [Start of frame] with a frame that waits an idle controller drives a start of frame
+-- [Start of frame] an idle controller with a pending frame drives dominant
 abbrev pub idle_drives : Option Parts → Level
 idle_drives None = Recessive
 idle_drives (Some f) = Dominant
 
+-- the level that a controller drives in each phase
 abbrev pub phase_drives : MacPhase → Role → Option Parts → Level
 phase_drives (Joining row) role waiting = Recessive
 phase_drives Idle role waiting = idle_drives waiting
@@ -52,11 +52,11 @@ phase_drives (Intermission place) role waiting = Recessive
 phase_drives (Suspend place) role waiting = Recessive
 phase_drives BusOff role waiting = Recessive
 
--- what a controller drives, where this frame waits
+-- the level that a controller drives, with this pending frame
 unfoldable pub mac_drives : MacState → Option Parts → Level
 mac_drives m waiting = phase_drives m.phase m.role waiting
 
--- a phase in which a controller is silent
+-- a phase in which a controller drives recessive with any pending frame and in any role: joining, passive error flag, bus off
 pub data IsSilent : MacPhase → Type 0 where
   joining : (row : ℕ) → IsSilent (Joining row)
   passive_flag : (last : Level) (run : ℕ) (unacknowledged : Bool) → IsSilent (PassiveFlag last run unacknowledged)
@@ -65,23 +65,22 @@ pub data IsSilent : MacPhase → Type 0 where
 abbrev pub stance : MacState → Stance
 stance m = record { passive = is_passive m.counters; role = m.role; overloads = m.overloads }
 
--- a move, with these counters
+-- the state after a transition, with these counters
 abbrev pub state_after_move : MacMove → ConfineParts → MacState
 state_after_move v counters = record { phase = v.phase; role = v.role; overloads = v.overloads; counters = counters }
 
--- [Bus off] what was counted makes the controller bus off, and this is told in
--- place of all else
+-- [Bus off] if what was counted makes the controller bus off, it reports `WentOff` instead of any other event
 abbrev pub step_or_bus_off : MacMove → ConfineParts → MacState × Option Event
 step_or_bus_off v counters =
     if is_bus_off counters then (record { phase = BusOff; role = Receiver; overloads = v.overloads; counters = counters }, Some WentOff)
     else (state_after_move v counters, v.event)
 
--- a move, and what it counts
+-- a transition and its cause, if there is one
 abbrev pub step_counting : MacMove → ConfineParts → Option Cause → MacState × Option Event
 step_counting v counters None = (state_after_move v counters, v.event)
 step_counting v counters (Some cause) = step_or_bus_off v (counted cause counters)
 
--- off the bus each level counts for recovery
+-- [Bus off] during bus off each level counts for recovery
 abbrev pub off_step : MacState → Level → MacState × Option Event
 off_step m x =
     if ends_bus_off x m.counters then (record m { phase = Idle; counters = recovered x m.counters }, Some Recovered)
@@ -90,10 +89,10 @@ off_step m x =
 abbrev pub on_step : MacState → MacMove → MacState × Option Event
 on_step m v = step_counting v m.counters v.cause
 
--- one bit time, in which this frame waits and this level is sampled: the next state, and what is told
+-- one bit time, with this pending frame and this level on the bus: the next state and the event
 unfoldable pub mac_step : MacState → Option Parts → Level → MacState × Option Event
 mac_step m waiting x = if is_off_phase m.phase then off_step m x else on_step m (move (stance m) m.phase waiting x)
 
--- n overload frames of one's own are asked for
+-- the controller is asked for n overload frames, in place of earlier requests
 abbrev pub holding : ℕ → MacState → MacState
 holding n m = record m { overloads = record { pending = n; used = m.overloads.used } }

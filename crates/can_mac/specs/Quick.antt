@@ -1,5 +1,5 @@
--- Which levels the quick ways take: levels at which the controller reports nothing, and only its phase changes, or off the bus its count
--- of recessive levels. That they do so is said by the contracts; here is which levels they are.
+-- Which levels the fast paths take: the controller reports no event, and only its phase changes, or during bus off its count of recessive
+-- levels. The contracts promise this; the definitions here list the levels.
 use Rattle.std.specs.Prelude.{◌==◌, nat_lt, Bool, true, false, not, if◌then◌else◌, length, Option, Some, None}
 use Rattle.can_frame.specs.declared.level.Level.{Level}
 use Rattle.can_frame.specs.declared.level.Level.TheVariants.{Dominant, Recessive}
@@ -13,11 +13,11 @@ use Rattle.can_mac.specs.declared.phase.Phase.TheVariants.{Joining, Idle, Stuffe
 use Rattle.can_mac.specs.State.{MacPhase, MacState}
 use Rattle.can_mac.specs.Moves.{refuses}
 
--- Silent levels: afterwards the controller drives recessive, whatever frame waits.
+-- Silent levels: the controller drives recessive next, with any pending frame.
 
--- a recessive level of a field of fixed length that is neither its last level nor one that validates a frame; each level of
--- a passive error flag but a dominant one that counts; the recessive level after a flag; and while joining each level but the eleventh
--- recessive one
+-- a recessive level of a field of fixed length that is neither its last level nor validates a frame; a level of a passive error flag,
+-- except a dominant one that is counted; the recessive level after a flag; while joining, any level except the eleventh recessive one in
+-- a row
 abbrev pub counts_on : MacPhase → Level → Bool
 counts_on (Joining row) Dominant = true
 counts_on (Joining row) Recessive = nat_lt row 10
@@ -42,28 +42,30 @@ counts_on (Suspend place) Dominant = false
 counts_on (Suspend place) Recessive = nat_lt place 7
 counts_on BusOff x = false
 
--- in the stuffed part no stuff error, and at a sender the level that it sends
+-- the level is the transmitter's own; at a receiver it is any level
 abbrev pub is_as_sent : Role → FrontParts → Level → Bool
 is_as_sent Receiver front x = true
 is_as_sent (Sender f) front x = same x (sent_level f (length front.unstuffed))
 
+-- a level of the stuffed part that is no stuff error, and at a transmitter the level that it sends
 abbrev pub is_heard : Role → FrontParts → Level → Bool
 is_heard role front x = if front.run == 5 then not (same x front.last) else is_as_sent role front x
 
+-- a level of the stuffed part at a receiver that is no stuff error
 abbrev pub is_received : Role → FrontParts → Level → Bool
 is_received Receiver front x = is_heard Receiver front x
 is_received (Sender f) front x = false
 
--- off the bus each level, until one occurrence of eleven recessive levels is missing
+-- any level during bus off, unless only one occurrence of eleven recessive levels is missing
 abbrev pub stays_off : MacState → Bool
 stays_off m = elim m.phase [ BusOff ↦ nat_lt m.counters.occurrences 127 | _ ↦ false ]
 
 abbrev pub is_silent_level : MacState → Level → Bool
 is_silent_level m x = elim m.phase [ StuffedPart front ↦ is_received m.role front x | BusOff ↦ nat_lt m.counters.occurrences 127 | _ ↦ counts_on m.phase x ]
 
--- Quiet levels, after which a controller may drive dominant, given the frame that waits.
+-- Quiet levels: the controller may drive dominant next, or needs its pending frame.
 
--- an idle bus, where no frame waits; the delimiters of a frame; and a flag up to its last level but one
+-- idle and recessive without a pending frame; the delimiters of a frame; a level of a flag that is not its last
 abbrev pub is_quiet_level : Role → MacPhase → Option Parts → Level → Bool
 is_quiet_level role Idle None Recessive = true
 is_quiet_level role Idle None Dominant = false

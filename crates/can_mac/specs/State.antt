@@ -11,33 +11,34 @@ use Rattle.can_mac.specs.declared.phase.Role.{Role}
 use Rattle.can_mac.specs.declared.phase.Role.TheVariants.{Receiver, Sender}
 use Rattle.can_mac.specs.declared.phase.Overloads.{Overloads}
 
--- the phase of a controller, which has heard the front of a frame where its stuffed part goes on
+-- the phase of a controller; in the stuffed part it has the front received so far
 abbrev pub MacPhase : Type 0
 MacPhase = Phase FrontParts
 
--- the phase; what the controller is to the frame on the bus; its own overload frames; and its counters
+-- the phase; transmitter or receiver; its own overload frames; its error counters
 pub record MacState : Type 0 where
   pub phase : MacPhase
   pub role : Role
   pub overloads : Overloads
   pub counters : ConfineParts
 
--- no overload frame is asked for, and none was used
+-- no overload frame is requested, and none has been started
 abbrev pub no_overloads : Overloads
 no_overloads = record { pending = 0; used = 0 }
 
+-- a receiver in this phase, with all counts 0
 abbrev pub starting : MacPhase → MacState
 starting phase = record { phase = phase; role = Receiver; overloads = no_overloads; counters = fresh }
 
--- on the bus, with all its numbers 0
+-- an idle controller, on the bus, with all counts 0
 abbrev pub idle : MacState
 idle = starting Idle
 
--- not yet on the bus, with all its numbers 0
+-- a controller that joins the bus, with all counts 0
 abbrev pub joining : MacState
 joining = starting (Joining 0)
 
--- whether it is the phase of a controller that is off the bus
+-- the phase is bus off
 abbrev pub is_off_phase : MacPhase → Bool
 is_off_phase BusOff = true
 is_off_phase (Joining row) = false
@@ -55,13 +56,14 @@ is_off_phase (Delimiter place) = false
 is_off_phase (Intermission place) = false
 is_off_phase (Suspend place) = false
 
--- What holds of every controller.
+-- The invariant of controllers.
 
--- a frame whose stuffed part goes on
+-- a front whose stuffed part is not complete
 pub record IsOpen (f : FrontParts) : Type 0 where
   pub front : IsFront f
   pub goes_on : next_place f ≢ ended
 
+-- the numbers of each phase are in range, and its frame is within its limits
 abbrev pub IsPhase : MacPhase → Type 0
 IsPhase (Joining row) = row < idle_row
 IsPhase Idle = Unit {0}
@@ -83,21 +85,22 @@ abbrev pub IsRole : Role → Type 0
 IsRole Receiver = Unit {0}
 IsRole (Sender f) = IsFrame f
 
--- whether it is the sender of the frame on the bus
+-- it is the transmitter
 abbrev pub is_sender : Role → Bool
 is_sender Receiver = false
 is_sender (Sender f) = true
 
--- a frame that waits is one
+-- the pending frame, if there is one, is within its limits
 abbrev pub IsFrameOrNone : Option Parts → Type 0
 IsFrameOrNone None = Unit {0}
 IsFrameOrNone (Some f) = IsFrame f
 
+-- the invariant: phase and role as above, at most two overload frames, counters in range
 pub record IsMac (m : MacState) : Type 0 where
   pub phase : IsPhase m.phase
   pub role : IsRole m.role
   pub pending : m.overloads.pending ≤ 2
   pub used : m.overloads.used ≤ 2
   pub counters : IsConfine m.counters
-  -- off the bus exactly where the counters say so
+  -- bus off exactly when the counters say so
   pub off : is_off_phase m.phase ≡ is_bus_off m.counters

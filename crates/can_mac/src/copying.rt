@@ -3,7 +3,7 @@ ghost use Rattle.std.specs.Prelude.{◌≡◌};
 use crate::phase::Phase;
 use can_code::{FrameBits, Front};
 
-/// The same phase once more.
+/// A copy of this phase.
 pub(crate) fn phase_copied<B: FrameBits>(phase: &Phase<Front<B>>) -> Phase<Front<B>>
     ensures { result ≡ phase.now }
 {

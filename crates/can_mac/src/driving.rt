@@ -1,4 +1,4 @@
-//! What a controller drives of a frame. (Bosch CAN 2.0 part B, sections 3.2.1 and 6)
+//! What a controller drives. (Bosch CAN 2.0 part B, sections 3.2.1 and 6)
 
 ghost use Rattle.std.specs.Prelude.{◌≡◌};
 ghost use Rattle.std.specs.Option.{option_copied};
@@ -8,7 +8,7 @@ use crate::phase::{Phase, Reading, Role};
 use can_code::{FrameBits, Front, Place};
 use can_frame::{Frame, Level};
 
-/// What a controller drives in this phase, where this frame waits to be sent.
+/// What a controller drives in this phase, with this pending frame.
 #[inline(always)]
 pub(crate) fn level_of_phase<B: FrameBits>(
     phase: &Phase<Front<B>>,
@@ -36,7 +36,7 @@ pub(crate) fn level_of_phase<B: FrameBits>(
     }
 }
 
-/// In the stuffed part a sender drives its frame's next level, or a stuff bit.
+/// In the stuffed part a transmitter drives the next level of its frame, or a stuff bit.
 fn level_of_part<B: FrameBits>(role: &Role, front: &Front<B>) -> Level
     ensures { result ≡ part_drives role.now front.now }
 {
@@ -47,7 +47,7 @@ fn level_of_part<B: FrameBits>(role: &Role, front: &Front<B>) -> Level
     }
 }
 
-/// In the ACK slot a receiver whose check sequence agrees acknowledges.
+/// In the ACK slot a receiver drives dominant if it found the CRC sequence right.
 fn level_of_slot(role: &Role, reading: &Reading) -> Level
     ensures { result ≡ slot_drives role.now reading.now.agrees }
 {

@@ -3,23 +3,23 @@ ghost use Rattle.can_mac.specs.Codes.{kind_code};
 
 use can_frame::Frame;
 
-/// What kind of error a controller detects. (Bosch CAN 2.0 part B, section 7.1)
+/// The kind of error that a controller detects. (Bosch CAN 2.0 part B, section 7.1)
 #[derive(Clone, Copy, Debug, PartialEq, Eq)]
 pub enum ErrorKind {
-    /// A bit differs from the one that was sent.
+    /// A bit on the bus differs from the one that the controller sent.
     Bit,
-    /// A stuff place repeats the level before it.
+    /// The level in the place of a stuff bit equals the five before it.
     Stuff,
-    /// The CRC sequence is not that of the levels before it.
+    /// The CRC sequence is not the one computed from the levels before it.
     Crc,
-    /// A bit of fixed form has the other level.
+    /// A bit of fixed form has the wrong level.
     Form,
     /// No receiver acknowledges.
     Ack,
 }
 
 impl ErrorKind {
-    /// Its number, for callers that aren't Rust.
+    /// The number of this kind, for callers in other languages.
     pub fn code(self) -> u8
         ensures { result ≡ kind_code self }
     {
@@ -33,14 +33,14 @@ impl ErrorKind {
     }
 }
 
-/// What a bit time brings to a controller. There is at most one event in a bit time.
+/// The event that a controller reports in a bit time. There is at most one.
 #[derive(Clone, Copy, Debug, PartialEq, Eq)]
 pub enum Event {
-    /// A frame was sent: the last level of its end of frame has gone out.
+    /// A frame was sent: its end of frame is complete.
     Sent(Frame),
-    /// A frame was received: the last level but one of its end of frame has come in.
+    /// A frame was received: the last but one level of its end of frame was recessive.
     Received(Frame),
-    /// Arbitration was lost. The controller goes on as a receiver of the frame.
+    /// Arbitration was lost. The controller continues as a receiver of the frame.
     Lost,
     /// An error was detected. An error flag starts with the next bit time.
     Error(ErrorKind),

@@ -13,8 +13,8 @@ ghost use Rattle.can_mac.specs.State.{idle, IsMac, IsFrameOrNone, joining, MacSt
 ghost use Rattle.can_mac.specs.Moves.{agrees, reading_of};
 ghost use Rattle.can_mac.specs.Machine.{holding, mac_step};
 
-/// What holds of every controller holds of one that is idle or joining, and stays with each bit time
-/// and each wish for overload frames.
+/// The invariant of controllers holds of an idle and of a joining one, and is kept. Each bit time keeps it, and each
+/// request for up to two overload frames.
 pub fn access_is_kept()
     ensures idle { IsMac idle }
     ensures joining { IsMac joining }
@@ -24,10 +24,10 @@ pub fn access_is_kept()
     ensures wish { (m : MacState) (n : ℕ) → IsMac m → n ≤ 2 → IsMac (holding n m) }
 {}
 
-/// A frame and the intermission behind it lead every error active controller that is idle as the frame
-/// begins through the same phases, and each level tells what it is to tell: at a controller where
-/// nothing waits, at the frame's sender, and at one where a frame waits that comes behind it in
-/// arbitration. What waits later has no say.
+/// A frame and its intermission lead all error active controllers that are idle at its start through the same phases.
+/// What each reports depends only on the frame and its own pending frame. A controller may have no pending frame, be
+/// the frame's transmitter, or have a pending frame of lower priority. Frames that are pending later have no
+/// influence. After the end of frame this holds if no overload frame is requested.
 pub fn a_frame_leads_all_to_one_phase()
     ensures phase { (f : Parts) (m : MacState) (waits : ℕ → Option Parts) (o : ℕ)
         → StartsWith f m (waits 0) → AreHeard f m o
@@ -42,9 +42,8 @@ pub fn a_frame_leads_all_to_one_phase()
     ensures sender { (f : Parts) (o : ℕ) → role_at f (Some f) o ≡ Sender f }
 {}
 
-/// The sender of a frame drives the levels that the bus has, but for the ACK slot, in which it
-/// listens. A receiver drives the ACK slot alone. So whoever takes part drives the level that the bus
-/// has, or recessive.
+/// The transmitter of a frame drives the levels of the bus, except in the ACK slot, where it drives recessive. A
+/// receiver drives the ACK slot alone. So each controller drives the level of the bus, or recessive.
 pub fn a_sender_drives_its_wire()
     ensures drives { (f : Parts) (m : MacState) (waits : ℕ → Option Parts) (o : ℕ)
         → StartsWith f m (waits 0) → AreHeard f m (o + 1)
@@ -67,9 +66,9 @@ pub fn a_sender_drives_its_wire()
         ⊎ (driven_at m waits (with_intermission f) o ≡ level_at (with_intermission f) o) }
 {}
 
-/// A controller whose frame comes behind the frame on the bus drives its own levels up to the place, in
-/// its arbitration field, where the two part: there it drives recessive, tells that it has lost, and
-/// is a receiver from then on.
+/// A controller whose pending frame has lower priority than the frame on the bus loses arbitration, and is a receiver
+/// from then on. It drives the levels of its own frame up to and including the first that differs, which is in its
+/// arbitration field. There it drives recessive, and reports `Lost`.
 pub fn a_loser_goes_on_as_a_receiver()
     ensures parts { (f g : Parts)
         → IsFrame f → IsFrame g → Before (arbitration_field f) (arbitration_field g)
@@ -88,9 +87,9 @@ pub fn a_loser_goes_on_as_a_receiver()
         → (state_after m waits (with_intermission f) o).role ≡ Receiver }
 {}
 
-/// For all unstuffed levels that have their whole check sequence, it agrees exactly where the generator
-/// divides them. A controller that is idle, and at which no frame waits, knows just that of a complete
-/// stuffed part that it has heard: it is at the CRC delimiter, with what these levels tell.
+/// A complete CRC sequence agrees exactly when the generator divides the unstuffed levels. An idle controller without
+/// a pending frame finds exactly this: after a complete stuffed part it is at the CRC delimiter, with what these
+/// levels encode.
 pub fn agreement_is_divisibility()
     ensures exactly { (u : List Bit) → length u ≡ frame_len u → agrees u ≡ true ↔ Multiple u }
     ensures heard { (u part : List Bit) (m : MacState) (waits : ℕ → Option Parts)

@@ -23,14 +23,13 @@ use can_fault::{Cause, Confine, State};
 use can_frame::{Frame, Level};
 use std::marker::Model;
 
-/// With the next occurrence of eleven recessive levels bus off ends.
+/// With this many occurrences of eleven recessive levels, the next one ends bus off.
 const LAST_OCCURRENCE: u8 = 127;
 
-/// A controller's medium access, one bit time after another: what it drives, and what the level makes
-/// of it that it samples. (Bosch CAN 2.0 part B, sections 3.2 and 7) `B` holds the unstuffed levels of
-/// the frame on the bus.
+/// The medium access of a controller, bit time by bit time. (Bosch CAN 2.0 part B, sections 3.2 and 7)
 ///
-/// No call takes memory, and none depends on how long the controller has run.
+/// `B` holds the unstuffed levels of the frame on the bus. No call allocates memory, and none depends on how long the
+/// controller has run.
 #[derive(Drop)]
 pub struct MediumAccess<B: FrameBits> {
     phase: Phase<Front<B>>,
@@ -56,22 +55,22 @@ impl<B: FrameBits> Model for MediumAccess<B> {
 }
 
 impl<B: FrameBits> MediumAccess<B> {
-    /// A controller that is on the bus and idle, with all its numbers 0.
+    /// An idle controller, on the bus, with all counts 0.
     pub fn idle() -> Self
         ensures { result ≡ idle_state }
     {
         MediumAccess::starting(Phase::Idle)
     }
 
-    /// A controller that waits for eleven recessive levels in a row before it is on the bus, with all
-    /// its numbers 0.
+    /// A controller that waits for eleven recessive levels in a row before it takes part (bus integration), with all
+    /// counts 0.
     pub fn joining() -> Self
         ensures { result ≡ joining_state }
     {
         MediumAccess::starting(Phase::Joining { row: 0 })
     }
 
-    /// A receiver in this phase, with all its numbers 0.
+    /// A receiver in this phase, with all counts 0.
     fn starting(phase: Phase<Front<B>>) -> Self
         requires kept { IsPhase phase }
         requires on_bus { is_off_phase phase ≡ false }
@@ -88,7 +87,7 @@ impl<B: FrameBits> MediumAccess<B> {
         }
     }
 
-    /// The same controller once more.
+    /// A copy of this controller.
     pub fn copied(&self) -> Self
         ensures { result ≡ self.now }
     {
@@ -100,7 +99,7 @@ impl<B: FrameBits> MediumAccess<B> {
         }
     }
 
-    /// What the controller drives in the next bit time, where this frame waits to be sent.
+    /// The level that the controller drives in the next bit time, with this pending frame.
     #[tactic(auto, using(crate::proofs::DriveLemmas::longest_part, crate::proofs::DriveLemmas::silent_drives), unfolding(crate::specs::Machine::mac_drives))]
     pub fn drive(&self, waiting: Option<&Frame>) -> Level
         ensures level { result ≡ mac_drives self.now (option_copied waiting.entry) }
@@ -111,9 +110,9 @@ impl<B: FrameBits> MediumAccess<B> {
         level_of_phase(&self.phase, &self.role, waiting)
     }
 
-    /// Takes the level that the bus has in this bit time, where this frame waits to be sent: what is
-    /// told. What the controller drove is what [`MediumAccess::drive`] answers for the same frame.
-    /// Ports ask [`MediumAccess::takes_quietly`] first, which takes most levels quicker.
+    /// Takes the level of the bus in this bit time, and returns the event, if there is one. The controller drove what
+    /// [`MediumAccess::drive`] returns for the same pending frame. Ports call [`MediumAccess::takes_quietly`] first,
+    /// which takes most levels faster.
     #[tactic(auto, unfolding(crate::specs::Machine::mac_step))]
     pub fn sample(&mut self, waiting: Option<&Frame>, seen: Level) -> Option<Event>
         ensures state { self.new ≡ (mac_step self.old (option_copied waiting.entry) seen).0 }
@@ -126,10 +125,11 @@ impl<B: FrameBits> MediumAccess<B> {
         }
     }
 
-    /// Takes a quiet level, and returns true: one that is reported by no event, and at which only the phase changes. Most
-    /// levels in frames, flags, delimiters and intermission are such; `specs/Quick.antt` lists them. At any other level
-    /// it returns false, and nothing changes: [`MediumAccess::sample`] takes it. A caller that asks this first spares
-    /// itself the event.
+    /// Takes a quiet level, and returns true. On any other level it returns false and changes nothing;
+    /// [`MediumAccess::sample`] takes that level.
+    ///
+    /// A level is quiet if it causes no event and changes only the phase. Most levels in frames, flags, delimiters
+    /// and intermission are quiet; `specs/Quick.antt` lists them. A caller that tries this first needs no event.
     #[tactic(auto, unfolding(crate::specs::Machine::mac_step))]
     #[inline(always)]
     pub fn takes_quietly(&mut self, waiting: Option<&Frame>, seen: Level) -> bool
@@ -142,9 +142,10 @@ impl<B: FrameBits> MediumAccess<B> {
         goes_on_quietly(&self.role, &mut self.phase, waiting, seen)
     }
 
-    /// Takes a silent level, and returns true: one that is reported by no event, and after which the controller drives
-    /// recessive, both whatever frame waits. Most levels are such to a receiver, which then need not look for the frame
-    /// that waits; `specs/Quick.antt` lists them. At any other level it returns false, and nothing changes.
+    /// Takes a silent level, and returns true. On any other level it returns false and changes nothing.
+    ///
+    /// A level is silent if, with any pending frame, it causes no event and the controller drives recessive next. For
+    /// a receiver most levels are silent, and it need not look for the pending frame; `specs/Quick.antt` lists them.
     #[tactic(auto, unfolding(crate::specs::Machine::mac_step, crate::specs::Machine::mac_drives))]
     #[inline(always)]
     pub fn takes_silently(&mut self, seen: Level) -> bool
@@ -160,7 +161,7 @@ impl<B: FrameBits> MediumAccess<B> {
         self.takes_silently_outside(seen)
     }
 
-    /// The same, outside of the stuffed part of a frame. It stands apart, since most levels are of that part.
+    /// Takes a silent level outside of the stuffed part. It is not inlined: most levels are in the stuffed part.
     #[tactic(auto, unfolding(crate::specs::Machine::mac_step, crate::specs::Machine::mac_drives))]
     #[inline(never)]
     fn takes_silently_outside(&mut self, seen: Level) -> bool
@@ -174,8 +175,9 @@ impl<B: FrameBits> MediumAccess<B> {
         self.stays_off(seen) || goes_on_silently(&mut self.phase, seen)
     }
 
-    /// Takes a level off the bus, and returns true, unless only one occurrence of eleven recessive levels is missing until
-    /// bus off ends. Then, and on the bus, it returns false, and nothing changes: [`MediumAccess::sample`] takes the level.
+    /// Takes a level during bus off, and returns true, unless only one occurrence of eleven recessive levels is
+    /// missing until bus off ends. In that case, and if the controller is not bus off, it returns false and changes
+    /// nothing; [`MediumAccess::sample`] takes the level.
     #[tactic(auto, unfolding(crate::specs::Machine::mac_step, crate::specs::Machine::mac_drives))]
     #[inline(always)]
     pub fn stays_off(&mut self, seen: Level) -> bool
@@ -194,9 +196,9 @@ impl<B: FrameBits> MediumAccess<B> {
         }
     }
 
-    /// How a frame that begins finds it, where this frame waits. The frame may pass it at once where it is idle or in
-    /// suspend transmission, and asks for no overload frame. It begins with the frame that waits, but in suspend
-    /// transmission with none. (Bosch CAN 2.0 part B, sections 3.2.5 and 8)
+    /// Whether a whole frame may pass the controller in one step, given its pending frame. It may if the controller
+    /// is idle or in suspend transmission, and no overload frame is requested. An idle controller starts with its
+    /// pending frame; in suspend transmission it starts with none. (Bosch CAN 2.0 part B, sections 3.2.5 and 8)
     #[inline]
     pub fn poised(&self, waiting: Option<&Frame>) -> Poised
         ensures yes { IsPoisedAs result self.now (option_copied waiting.entry) }
@@ -212,9 +214,9 @@ impl<B: FrameBits> MediumAccess<B> {
         }
     }
 
-    /// Takes a frame that it sends, or that it receives, from its start of frame to the end of intermission, at a
-    /// controller that a frame may pass at once: what is left of the frame is that it is counted, and that a sender that
-    /// is error passive waits. (Bosch CAN 2.0 part B, section 8)
+    /// Sends or receives a whole frame in one step, from its start of frame to the end of intermission.
+    /// [`MediumAccess::poised`] says when this is allowed. The frame is counted, and an error passive transmitter
+    /// enters suspend transmission. (Bosch CAN 2.0 part B, section 8)
     #[inline]
     pub fn take_frame(&mut self, frame: &Frame, sent: bool)
         requires { is_bus_off self.old.counters ≡ false }
@@ -234,7 +236,8 @@ impl<B: FrameBits> MediumAccess<B> {
         }
     }
 
-    /// Receives the frame that another controller hears, as far as that one has heard it.
+    /// Makes it a receiver of the frame that `leader` is in, in the same phase. Its own counters and requested
+    /// overload frames stay.
     pub fn hear_as(&mut self, leader: &Self)
         requires on_bus { is_bus_off self.old.counters ≡ false }
         requires leader { is_off_phase leader.now.phase ≡ false }
@@ -245,8 +248,9 @@ impl<B: FrameBits> MediumAccess<B> {
         self.overloads.used = 0;
     }
 
-    /// Whether it is error passive and behind an error as a frame begins that it doesn't send: it drives nothing up to the
-    /// end of the intermission behind that frame. (Bosch CAN 2.0 part B, sections 3.1.3 and 8)
+    /// Whether it is an error passive receiver that is still in an error frame when another controller's frame
+    /// begins. Such a controller drives recessive until the end of the intermission after that frame. (Bosch CAN 2.0
+    /// part B, sections 3.1.3 and 8)
     pub fn is_out_of_step(&self) -> bool
         ensures yes { IsTrue result → IsOutOfStep self.now }
         ensures no { IsFalse result → IsOutOfStep self.now → ⊥ }
@@ -260,8 +264,8 @@ impl<B: FrameBits> MediumAccess<B> {
         }
     }
 
-    /// Asks for `count` overload frames of its own, in place of what was asked for before. `false`
-    /// where they are more than two: then nothing changes.
+    /// Requests `count` overload frames, in place of those requested before. It returns false, and changes nothing,
+    /// if `count` is more than two.
     pub fn hold(&mut self, count: u8) -> bool
         ensures fits { IsTrue result ↔ (count ≤ 2) }
         ensures held { IsTrue result → self.new ≡ holding count self.old }
@@ -288,14 +292,14 @@ impl<B: FrameBits> MediumAccess<B> {
         &self.phase
     }
 
-    /// What it is to the frame on the bus.
+    /// Whether it is the transmitter or a receiver of the frame on the bus.
     pub fn role(&self) -> &Role
         ensures { result.now ≡ self.now.role }
     {
         &self.role
     }
 
-    /// Off the bus each level counts for recovery.
+    /// During bus off each level counts for recovery.
     fn wait_for_recovery(&mut self, seen: Level) -> Option<Event>
         requires { is_off_phase self.old.phase ≡ true }
         ensures state { self.new ≡ (off_step self.old seen).0 }
@@ -309,7 +313,7 @@ impl<B: FrameBits> MediumAccess<B> {
         None
     }
 
-    /// A level at a controller that isn't off the bus.
+    /// Takes a level at a controller that is not bus off.
     #[tactic(auto, unfolding(crate::specs::Machine::mac_step))]
     fn take_part(&mut self, waiting: Option<&Frame>, seen: Level) -> Option<Event>
         requires { is_off_phase self.old.phase ≡ false }
@@ -340,7 +344,7 @@ impl<B: FrameBits> MediumAccess<B> {
     }
 }
 
-/// A frame that waits is within its limits, which its bytes tell.
+/// A pending frame is within its limits, by the invariant of [`Frame`].
 fn within_limits(waiting: Option<&Frame>)
     ensures { IsFrameOrNone (option_copied waiting.entry) }
 {
@@ -349,7 +353,7 @@ fn within_limits(waiting: Option<&Frame>)
     }
 }
 
-/// Whether a controller in this phase is behind an error and drives nothing, though a frame begins.
+/// Whether a controller in this phase is in an error frame and drives recessive, even if a frame begins.
 fn is_behind_error<B: FrameBits>(phase: &Phase<Front<B>>) -> bool
     ensures yes { IsTrue result → IsBehindError phase.now }
     ensures no { IsFalse result → IsBehindError phase.now → ⊥ }

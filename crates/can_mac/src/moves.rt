@@ -1,5 +1,5 @@
-//! What a level makes of each phase: one function for each definition of `specs/Moves.antt`, with its
-//! cases in the same order. Most levels are taken before that, in the ways of `shortcuts`.
+//! The transition of each phase: one function for each definition of `specs/Moves.antt`, with its cases in the same
+//! order. Most levels are taken by the fast paths of `shortcuts` before that.
 
 pub(crate) mod between_frames;
 pub(crate) mod flags;
@@ -25,7 +25,7 @@ use frame_end::{ack_delimiter, ack_slot, crc_delimiter, end_of_frame};
 use std::marker::Model;
 use stuffed_part::stuffed_part;
 
-/// A frame of which the start of frame alone has been heard.
+/// A frame of which only the start of frame has been received.
 #[derive(Drop)]
 pub struct NewFrame;
 
@@ -37,44 +37,44 @@ impl Model for NewFrame {
     ghost view = { λ a. first_front };
 }
 
-/// What a phase reads of the rest of a controller.
+/// What a transition reads of a controller besides its phase.
 #[derive(Clone, Copy)]
 pub struct Stance {
     /// Whether the controller is error passive.
     pub passive: bool,
-    /// What it is to the frame on the bus.
+    /// Transmitter or receiver of the frame on the bus.
     pub role: Role,
     /// Its own overload frames.
     pub overloads: Overloads,
 }
 
-/// What a level makes of a controller.
+/// A transition of a controller.
 #[derive(Drop)]
 pub struct Move<P> {
     /// The next phase.
     pub phase: P,
-    /// What the controller is to the frame on the bus from now on.
+    /// Transmitter or receiver from now on.
     pub role: Role,
     /// Its own overload frames from now on.
     pub overloads: Overloads,
-    /// What is counted.
+    /// The cause that is counted.
     pub cause: Option<Cause>,
-    /// What is told.
+    /// The event that is reported.
     pub event: Option<Event>,
 }
 
-/// How many overload frames of its own a controller can ask for, and how many it starts between two
-/// frames. (Bosch CAN 2.0 part B, section 3.2.4)
+/// At most this many overload frames can be requested, and started between two frames. (Bosch CAN 2.0 part B, section
+/// 3.2.4)
 pub(crate) const MOST_OVERLOADS: u8 = 2;
 
-/// A move into a phase, where a frame that begins has told its start of frame alone.
+/// A transition to a phase. If a frame begins, only its start of frame has been received.
 pub(crate) type Entering = Move<Phase<NewFrame>>;
 
-/// A move within the stuffed part of a frame or out of it: no phase where the part goes on.
+/// A transition within the stuffed part or out of it. It has no phase if the stuffed part continues.
 pub(crate) type Hearing = Move<Option<Phase<NewFrame>>>;
 
 impl Stance {
-    /// Nothing but the phase changes.
+    /// Only the phase changes.
     pub(crate) fn goes(&self, phase: Phase<NewFrame>) -> Entering
         ensures { result ≡ goes self.now phase }
     {
@@ -87,7 +87,7 @@ impl Stance {
         }
     }
 
-    /// The phase changes, and this is told.
+    /// The phase changes, and this event is reported.
     pub(crate) fn tells(&self, phase: Phase<NewFrame>, event: Event) -> Entering
         ensures { result ≡ tells self.now phase event }
     {
@@ -120,7 +120,7 @@ impl Stance {
         }
     }
 
-    /// The error flag that starts.
+    /// The phase of the error flag that starts.
     fn flag(&self, unacknowledged: bool) -> Phase<NewFrame>
         ensures { result ≡ flag self.now.passive unacknowledged }
     {
@@ -135,7 +135,7 @@ impl Stance {
         }
     }
 
-    /// An error, and what it counts.
+    /// An error with this cause.
     pub(crate) fn errs_by(
         &self,
         cause: Option<Cause>,
@@ -167,7 +167,7 @@ impl Stance {
         self.errs_by(Some(self.role.flag_bit_cause()), false, ErrorKind::Bit)
     }
 
-    /// Intermission is entered. A receiver that has asked for an overload frame starts its flag.
+    /// Intermission begins, or the flag of a requested overload frame at a receiver.
     pub(crate) fn enters_intermission(&self) -> Entering
         ensures { result ≡ enters_intermission self.now self.now.role }
     {
@@ -184,7 +184,7 @@ impl Stance {
         }
     }
 
-    /// No frame is on the bus, and the controller may send.
+    /// The controller becomes idle.
     pub(crate) fn rests(&self) -> Entering
         ensures { result ≡ goes (record self.now { role = Role.Receiver }) Phase.Idle }
     {
@@ -196,7 +196,7 @@ impl Stance {
         receiver.goes(Phase::Idle)
     }
 
-    /// Whether it is an error passive controller that was the sender.
+    /// Whether it is an error passive controller that was the transmitter.
     pub(crate) fn is_held_back(&self) -> bool
         ensures { result ≡ is_held_back self.now self.now.role }
     {
@@ -208,7 +208,7 @@ impl Stance {
 }
 
 impl Phase<NewFrame> {
-    /// The same phase, where a frame that begins is heard level by level.
+    /// The same phase, with the front of a frame that begins.
     pub(crate) fn entered<B: FrameBits>(self) -> Phase<Front<B>>
         ensures { result ≡ self }
     {
@@ -249,7 +249,7 @@ pub(crate) fn enter<B: FrameBits>(phase: &mut Phase<Front<B>>, next: Option<Phas
     }
 }
 
-/// What a level makes of a phase. The front of a frame is heard in place.
+/// The transition of any phase. The front of a frame is updated in place.
 pub(crate) fn next_move<B: FrameBits>(
     stance: &Stance,
     phase: &mut Phase<Front<B>>,
@@ -265,8 +265,8 @@ pub(crate) fn next_move<B: FrameBits>(
     }
 }
 
-/// What a level makes of a phase outside of the stuffed part of a frame. Each move is made where it is
-/// answered, which is why the stuffed part stands apart.
+/// The transition of a phase outside of the stuffed part. It is a function of its own so that each transition is
+/// built in place.
 fn move_outside<B: FrameBits>(
     stance: &Stance,
     phase: &Phase<Front<B>>,
@@ -301,7 +301,7 @@ fn move_outside<B: FrameBits>(
 }
 
 impl Entering {
-    /// The same, as a move out of the stuffed part.
+    /// This transition as one out of the stuffed part.
     pub(crate) fn leaves(self) -> Hearing
         ensures { result ≡ record { phase = Some self.phase; role = self.role; overloads = self.overloads; cause = self.cause; event = self.event } }
     {

@@ -6,17 +6,17 @@ use can_code::Sending;
 use can_fault::Cause;
 use can_frame::{Frame, Level};
 
-/// What the stuffed part of a frame has told, once it has ended.
+/// The frame that the stuffed part encodes, once it is complete.
 #[derive(Clone, Copy, Debug)]
 pub struct Reading {
     /// The frame.
     pub frame: Frame,
-    /// Whether its CRC sequence is that of the levels before it.
+    /// Whether its CRC sequence is the one computed from the levels before it.
     pub agrees: bool,
 }
 
-/// Where a controller is in the traffic on the bus. `F` is what it has heard of a frame whose stuffed
-/// part goes on. Places count the levels before the next one from 0.
+/// The phase of a controller. `F` is what it has received of a frame during the stuffed part. A place counts the
+/// levels before the next one, from 0.
 ///
 /// ```text
 /// Joining --eleven recessive--> Idle --SOF--> StuffedPart
@@ -24,7 +24,7 @@ pub struct Reading {
 /// StuffedPart --> CrcDelimiter --> AckSlot --> AckDelimiter --> EndOfFrame --> Intermission --> Idle
 ///
 /// Intermission --SOF in its third bit--> StuffedPart
-/// Intermission --error passive, and was the sender--> Suspend --eight recessive--> Idle
+/// Intermission --error passive, and was the transmitter--> Suspend --eight recessive--> Idle
 /// Suspend --SOF--> StuffedPart
 ///
 /// Idle, StuffedPart to EndOfFrame, ErrorFlag, OverloadFlag, Delimiter --error--> ErrorFlag or PassiveFlag
@@ -32,17 +32,17 @@ pub struct Reading {
 /// Intermission --dominant in its first or second bit--> OverloadFlag
 /// ErrorFlag, PassiveFlag, OverloadFlag --six levels--> AfterFlag --recessive--> Delimiter --> Intermission
 ///
-/// where a count makes TEC 256 --> BusOff --128 times eleven recessive--> Idle
+/// a count makes TEC 256 or more --> BusOff --128 times eleven recessive--> Idle
 /// ```
 #[derive(Debug, Drop)]
 pub enum Phase<F> {
-    /// Not yet on the bus: so many recessive levels in a row, 0 to 10.
+    /// Joining (bus integration): `row` recessive levels in a row so far, 0 to 10.
     Joining {
         row: u8,
     },
     /// On the bus, between frames.
     Idle,
-    /// Between the start of frame and the end of the CRC sequence.
+    /// From the start of frame to the end of the CRC sequence.
     StuffedPart(F),
     /// The next level is the CRC delimiter.
     CrcDelimiter(Reading),
@@ -59,8 +59,8 @@ pub enum Phase<F> {
     ErrorFlag {
         place: u8,
     },
-    /// A passive error flag: the last level and how many levels in a row equal it, 0 to 5, none before
-    /// the flag counted; and whether it came from a missing acknowledgement that isn't counted yet.
+    /// A passive error flag: the last level, and how many levels of the flag in a row equal it, 0 to 5.
+    /// `unacknowledged`: the error was a missing acknowledgment that has not been counted yet.
     PassiveFlag {
         last: Level,
         run: u8,
@@ -70,13 +70,13 @@ pub enum Phase<F> {
     OverloadFlag {
         place: u8,
     },
-    /// Behind a flag, before the first recessive level: whether the next level is the first one behind an
-    /// error flag, and how many dominant levels have come, modulo eight.
+    /// After a flag, before the first recessive level. `first`: the next level is the first after an error flag.
+    /// `dominant`: the number of dominant levels after the flag, modulo eight.
     AfterFlag {
         first: bool,
         dominant: u8,
     },
-    /// The delimiter behind a flag, 1 to 7: its first level has come.
+    /// The delimiter after a flag, 1 to 7: its first level has been sampled.
     Delimiter {
         place: u8,
     },
@@ -84,33 +84,35 @@ pub enum Phase<F> {
     Intermission {
         place: u8,
     },
-    /// An error passive controller waits after its own frame, 0 to 7.
+    /// Suspend transmission: an error passive controller waits after its own frame, 0 to 7.
     Suspend {
         place: u8,
     },
-    /// Off the bus.
+    /// Bus off.
     BusOff,
 }
 
-/// What a controller is to the frame on the bus. It is a receiver while there is none.
+/// Whether a controller is the transmitter or a receiver of the frame on the bus. It is a receiver while it is
+/// joining, idle or bus off. A transmitter keeps its role until intermission and suspend transmission are over,
+/// unless it loses arbitration or goes bus off.
 #[derive(Clone, Copy, Debug)]
 pub enum Role {
     Receiver,
-    /// The sender of this frame.
+    /// The transmitter of this frame.
     Sender(Sending),
 }
 
-/// The overload frames of a controller's own.
+/// The overload frames that a controller is asked to send.
 #[derive(Clone, Copy, Debug)]
 pub struct Overloads {
-    /// How many are asked for, 0 to 2.
+    /// The number still requested, 0 to 2.
     pub pending: u8,
-    /// How many it has started since the last frame began, 0 to 2.
+    /// The number started since the last frame began, 0 to 2.
     pub used: u8,
 }
 
 impl Role {
-    /// What an error in a frame or in a delimiter counts.
+    /// The cause of an error in a frame or in a delimiter.
     pub(crate) fn error_cause(&self) -> Cause
         ensures { result ≡ error_cause self.now }
     {
@@ -120,7 +122,7 @@ impl Role {
         }
     }
 
-    /// What a bit error in an own flag counts.
+    /// The cause of a bit error in an own flag.
     pub(crate) fn flag_bit_cause(&self) -> Cause
         ensures { result ≡ flag_bit_cause self.now }
     {
@@ -130,8 +132,8 @@ impl Role {
         }
     }
 
-    /// The kind of error where a bit of fixed form has the other level: to its sender this is a bit
-    /// error.
+    /// The kind of error if a bit of fixed form has the wrong level: for the transmitter a bit error, for a receiver
+    /// a form error.
     pub(crate) fn form_kind(&self) -> ErrorKind
         ensures { result ≡ form_kind self.now }
     {

@@ -1,12 +1,12 @@
 use can_frame::Frame;
 
-/// How a frame that begins finds a controller. (Bosch CAN 2.0 part B, sections 3.2.5 and 8)
+/// Whether a whole frame may pass a controller in one step. (Bosch CAN 2.0 part B, sections 3.2.5 and 8)
 #[derive(Clone, Copy, Debug, PartialEq, Eq)]
 pub enum Poised {
-    /// The frame may not pass it at once, or it doesn't say.
+    /// It may not, or this is not known.
     Not,
-    /// The frame may pass it at once, and it receives it.
+    /// It may, and the controller receives it.
     ToReceive,
-    /// The frame may pass it at once, and it begins with this frame itself.
+    /// It may, and the controller itself starts with this frame.
     ToSend(Frame),
 }

@@ -1,4 +1,4 @@
-//! A level at a controller on the bus: the move that it makes, what that counts, and where it lands. (Bosch CAN 2.0
+//! One level at a controller that is not bus off: the transition, what it counts, and the next state. (Bosch CAN 2.0
 //! part B, sections 3.2, 7 and 8)
 
 ghost use Rattle.std.specs.Prelude.{◌≡◌, IfSome, IsNone, None, Some, false};
@@ -16,7 +16,8 @@ use can_code::{FrameBits, Front};
 use can_fault::{Cause, Confine, State};
 use can_frame::{Frame, Level};
 
-/// A level that makes a move of a frame that goes well: what is told. Else nothing changes.
+/// Makes a transition of a frame without errors in place, and returns its event. On any other level it returns
+/// `None`, and nothing changes.
 #[inline(always)]
 pub(crate) fn make_in_place<B: FrameBits>(
     phase: &mut Phase<Front<B>>,
@@ -54,7 +55,7 @@ pub(crate) fn make_in_place<B: FrameBits>(
     Some(land(phase, role, confine, made))
 }
 
-/// A level that makes a move: what is told. It stands apart, since few levels come to it.
+/// Makes any transition, and returns its event. It is not inlined: few levels reach it.
 #[inline(never)]
 pub(crate) fn make_move<B: FrameBits>(
     phase: &mut Phase<Front<B>>,
@@ -83,8 +84,8 @@ pub(crate) fn make_move<B: FrameBits>(
     land(phase, role, confine, made)
 }
 
-/// Lands where a move leads, whose phase may have been heard in place: what is told. Where what it counts makes the
-/// controller bus off, this is told in place of all else.
+/// Enters the next phase of a transition, and returns the event. If its cause makes the controller bus off, that is
+/// the event instead.
 #[inline(always)]
 fn land<B: FrameBits>(
     phase: &mut Phase<Front<B>>,
@@ -116,7 +117,7 @@ pub(crate) fn is_passive(confine: &Confine) -> bool
     }
 }
 
-/// Counts what a move counts, if anything: whether this makes the controller bus off.
+/// Counts the cause of a transition, if there is one. Returns whether this makes the controller bus off.
 fn count(confine: &mut Confine, cause: Option<Cause>) -> bool
     ensures none { cause ≡ None → (confine.new ≡ confine.old) × (result ≡ false) }
     ensures some { (c : Cause) → cause ≡ Some c → (confine.new ≡ counted c confine.old) × (result ≡ is_bus_off confine.new) }

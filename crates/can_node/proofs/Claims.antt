@@ -32,7 +32,7 @@ WaitsOnlyOff-from m is = record { none = λ on. is.counters.no_occurrences (low 
 pub port_rested : (p : PortState) (levels : List Level) → IsMac p.mac → Rested levels (port_events p levels)
 port_rested p levels is = of_turns Rested p levels (turns_rested (port_turns p levels) p.mac (WaitsOnlyOff-from p.mac is))
 
--- each frame that was received or sent stands in the levels, from a port on that is in no frame
+-- each frame that was received or sent is in the levels, from a port on that is in no frame
 pub port_took : (p : PortState) (levels : List Level) → AreFrames p.queue → MacKnows p.mac [] → Took levels (port_events p levels)
 port_took p levels are knows = of_turns Took p levels (turns_took (port_turns p levels) p.mac (AreTurns-port_turns p levels are) knows)
 

@@ -34,7 +34,7 @@ unfolding waiting
 IsWaiting-waiting [] are = tt
 IsWaiting-waiting (f ∷ queue) are = IsFrame-earlier f (waiting queue) are.0 (IsWaiting-waiting queue are.1)
 
--- the others stay frames where one leaves the queue
+-- the others stay frames if one leaves the queue
 pub AreFrames-without : (f : Parts) (queue : List Parts) → AreFrames queue → AreFrames (without f queue)
 unfolding without
 AreFrames-without f [] are = tt
@@ -45,7 +45,7 @@ AreFrames-without f (g ∷ queue) are =
 port_logging-queue : (entry : Entry) (p : PortState) → (port_logging entry p).queue ≡ p.queue
 port_logging-queue entry p = cond_both {A = PortState} (nat_lt (length p.log) p.log_room) _ _ (λ q. q.queue ≡ p.queue) (λ e. refl) (λ e. refl)
 
--- whatever is told of a bit time
+-- with any event of the bit time
 AreFrames-port_noting : (event : Option Event) (p : PortState) → AreFrames p.queue → AreFrames (port_noting event p).queue
 AreFrames-port_noting (Some (Sent f)) p are = subst AreFrames (sym (port_logging-queue (record { frame = f; sent = true }) (record p { queue = without f p.queue }))) (AreFrames-without f p.queue are)
 AreFrames-port_noting (Some (Received f)) p are = subst AreFrames (sym (port_logging-queue (record { frame = f; sent = false }) p)) are

@@ -1,4 +1,4 @@
--- A frame one of whose levels is inverted on the bus, at one port at which frames arrive meanwhile: they wait behind the others, and
+-- A frame one of whose levels is inverted on the bus, at one port at which frames arrive in the meantime: they wait after the others, and
 -- nothing else changes.
 use Rattle.std.proofs.Common.{◌≡◌, ℕ, zero, suc, ◌+◌, ◌<◌, ◌≤◌, Some, List, [], ◌∷◌, ◌++◌, length, take, refl, sym, ◌∙◌, ap, arith, append_assoc}
 use Rattle.std.proofs.lemmas.List.{append-nil}
@@ -30,7 +30,7 @@ pub later_by-more : (n m : ℕ) (arrives : ℕ → List Parts) → later_by (n +
 later_by-more zero m arrives = ap (λ k. later_by k arrives) (let e : 0 + m ≡ m = omega arith in e)
 later_by-more (suc n) m arrives = ap (λ k. later_by k arrives) (let e : suc n + m ≡ suc (n + m) = omega arith in e) ∙ later_by-more n m (later arrives)
 
--- a port with this controller, and as it stands n bit times later, where only frames arrive
+-- a port with this controller, and its state n bit times later, if only frames arrive
 abbrev pub put : MacState → GainingPort → GainingPort
 put m g = gaining (at_mac m g.port) g.arrives
 
@@ -43,13 +43,13 @@ gained-more n m g =
     ∙ ap (λ fs. gaining (gains fs g.port) (later_by m (later_by n g.arrives))) (sym (arrived-more n m g.arrives))
     ∙ ap (gaining (gains (arrived g.arrives (n + m)) g.port)) (sym (later_by-more n m g.arrives))
 
--- ---- levels behind others
+-- ---- levels after others
 
 pub gaining_run-append : (a b : List Level) (g : GainingPort) → gaining_run g (a ++ b) ≡ gaining_run (gaining_run g a) b
 gaining_run-append [] b g = refl
 gaining_run-append (x ∷ a) b g = gaining_run-append a b (gaining_step g x)
 
--- ---- where a controller goes
+-- ---- the next state of a controller
 
 pub one-gaining_step : (m : MacState) (l : Level × Level) (next : MacState) (g : GainingPort) → port_step (at_mac m g.port) l.1 ≡ at_mac next g.port →
     gaining_step (put m g) l.1 ≡ put next (gained 1 g)

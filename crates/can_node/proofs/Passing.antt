@@ -27,7 +27,7 @@ use Rattle.can_node.specs.Ports.{PortState, waiting, port_drives, port_noting, p
 use Rattle.can_node.proofs.OneFrame.{at_mac, port_noting-at_mac, step-port_noting}
 use Rattle.can_node.proofs.FrameLeaves.{ComesBehind, IsUnnoted, loss-unnoted, receiver-late, received-once, sent-once}
 
--- f begins at a port, which begins with this frame: with f, or with one that comes behind it, or with none
+-- f begins at a port, which starts with this frame: with f, or with one of lower priority, or with none
 pub record Enters (f : Parts) (p : PortState) (next : Option Parts) : Type 0 where
   pub frame : IsFrame f
   pub poised : IsPoised p.mac (waiting p.queue) next
@@ -128,7 +128,7 @@ module _ (f : Parts) (p : PortState) (next : Option Parts) (enters : Enters f p 
   last : length (with_intermission f) ≡ suc (n + 12)
   last = length-with_intermission f ∙ (let e : n + 13 ≡ suc (n + 12) = omega arith in e)
 
-  -- behind the stuffed part the port has this role, and one level tells this, and no other
+  -- after the stuffed part the port has this role, and one level causes this event, and no other one
   module _ (role : Role) (keeps : (o : ℕ) → length (stuffed_part f) ≤ o → role_at f next o ≡ role) (place : ℕ) (elsewhere : (k : ℕ) → k ≢ place → end_event f role k ≡ None) where
     late : (o : ℕ) → n ≤ o → frame_event f next o ≡ end_event f role (behind_part f o)
     late o past = cond-false (ltb o n) _ _ (le-ltb o n past) ∙ ap (λ r. end_event f r (behind_part f o)) (keeps o past)
@@ -159,7 +159,7 @@ module _ (f : Parts) (p : PortState) (next : Option Parts) (enters : Enters f p 
         let here : behind_part f o ≡ k = omega (arith, at) in
         state-late f enters.frame next pending c o past ∙ ap (λ r. end_state f r pending c (behind_part f o)) (keeps o past) ∙ ap (end_state f role pending c) here
 
-  -- f stays in the queue of its sender until it is noted
+  -- f stays in the queue of its transmitter until it is noted
   pub keeps-own : next ≡ Some f → (o : ℕ) → o < length (with_intermission f) → o ≤ length (stuffed_part f) + 9 → (port_run p (take o (with_intermission f))).queue ≡ p.queue
   keeps-own own o within early =
       ap (λ (q : PortState). q.queue) (runs-early o within) ∙ goes o
@@ -202,7 +202,7 @@ module _ (f : Parts) (p : PortState) (next : Option Parts) (enters : Enters f p 
       going-late zero some = absurd (omega (arith, some))
       going-late (suc o) some = refl
 
-  -- what f leaves, where the port has sent it, and where it hasn't
+  -- what f leaves, if the port has sent it, and if it has not
   pub passed : (sent : Bool) → (IsTrue sent → next ≡ Some f) → (IsFalse sent → ComesBehind f next)
       → port_run p (with_intermission f) ≡ port_noting (Some (if sent then Sent f else Received f)) (at_mac (behind_frame f sent p.mac) p)
   passed true own other = sends (own refl)

@@ -99,7 +99,7 @@ module _ (m : MacState) (waiting : Option Parts) (x : Level) where
       Begins : MacState → Option Event → Type 0
       Begins n e = is_upset e ≡ true → (levels : List Level) → Waits n levels
 
-  -- a bit time goes on waiting and tells of no frame, or the bus has rested
+  -- after a bit time it still waits and has no event of a frame, or the bus has been at rest
   module _ (since : List Level) where
     abbrev RestedOrWaits : MacState → Option Event → Type 0
     RestedOrWaits n e = HasRested since ⊎ (Waits n (since ++ x ∷ []) × (is_of_frame e ≡ false))

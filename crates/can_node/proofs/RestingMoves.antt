@@ -1,5 +1,5 @@
--- What a move makes of a controller that waits for the bus to rest: an error or an overload begins the
--- wait, and no move tells of a frame before ten recessive levels stand in a row.
+-- The effect of a move on a controller that waits until the bus is at rest: an error or an overload flag begins the wait, and no move has
+-- an event of a frame before ten recessive levels in a row.
 use Rattle.std.proofs.Common.{◌≡◌, ℕ, ◌+◌, Bool, true, false, ◌&&◌, Option, Some, None, List, length, refl, cond}
 use Rattle.std.specs.Prelude.{nat_lt, ◌==◌}
 use Rattle.can_frame.specs.declared.level.Level.{Level}
@@ -27,7 +27,7 @@ pub record WaitsOff (c : ConfineParts) (levels : List Level) : Type 0 where
   pub none : c.occurrences ≡ 0
   pub ends : EndsInRest c.row levels
 
--- where a controller may be before a rest was seen, and what it has seen there
+-- where a controller may be before the bus was at rest, and what it has sampled there
 abbrev pub WaitsAt : MacPhase → ConfineParts → List Level → Type 0
 WaitsAt (Joining row) c levels = ⊥
 WaitsAt Idle c levels = ⊥
@@ -45,11 +45,11 @@ WaitsAt (Intermission place) c levels = EndsInRest (8 + place) levels
 WaitsAt (Suspend place) c levels = ⊥
 WaitsAt BusOff c levels = WaitsOff c levels
 
--- a move that begins the wait if it tells of an upset
+-- a move that begins the wait if its event is an error, an overload flag or bus off
 pub record BeginsWait (v : MacMove) : Type 0 where
   pub begins : is_upset v.event ≡ true → (c : ConfineParts) (levels : List Level) → WaitsAt v.phase c levels
 
--- a move that tells of no upset
+-- a move whose event is none of these
 calm : {v : MacMove} → is_upset v.event ≡ false → BeginsWait v
 calm h = record { begins = λ e. cc }
 
@@ -76,7 +76,7 @@ enters s Receiver = either (nat_lt 0 s.overloads.pending && nat_lt s.overloads.u
 begins-stuff_bit : (s : Stance) (front : FrontParts) (x : Level) → BeginsWait (stuff_bit_move s front x)
 begins-stuff_bit s front x = either (same x front.last) (either (is_uncounted s.role front.unstuffed x) (error _ _ _ _) (error _ _ _ _)) (calm refl)
 
--- another place of the stuffed part, to a sender
+-- another place of the stuffed part, to a transmitter
 begins-sent_bit : (s : Stance) (f : Parts) (front : FrontParts) (driven x : Level) → BeginsWait (sent_bit_move s f front driven x)
 begins-sent_bit s f front Dominant Dominant = calm refl
 begins-sent_bit s f front Recessive Recessive = calm refl

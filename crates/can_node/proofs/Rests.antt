@@ -9,7 +9,7 @@ use Rattle.can_node.specs.Listening.{RestsBetween}
 abbrev pub EndsInRest : ℕ → List Level → Type 0
 EndsInRest n levels = (before : List Level) × (levels ≡ before ++ replicate n Recessive)
 
--- ten recessive levels stand in a row
+-- there are ten recessive levels in a row
 abbrev pub HasRested : List Level → Type 0
 HasRested levels = (before : List Level) × (after : List Level) × (levels ≡ before ++ (replicate 10 Recessive ++ after))
 
@@ -45,7 +45,7 @@ HasRested-append levels more h =
     let row = replicate 10 Recessive in
     (h.0, h.1 ++ more, ap (λ l. l ++ more) h.2 ∙ append_assoc h.0 (row ++ h.1) more ∙ ap (λ l. h.0 ++ l) (append_assoc row h.1 more))
 
--- a rest in the first t levels behind another stands between the times of that and of the next
+-- ten recessive levels among the first t levels that follow another one are between its time and that of the next
 pub RestsBetween-first : (first : Level) (levels : List Level) (t : ℕ) → HasRested (take t levels) → RestsBetween (first ∷ levels) 0 (suc t)
 RestsBetween-first first levels t h =
     let row = replicate 10 Recessive in

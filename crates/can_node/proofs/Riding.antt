@@ -1,4 +1,4 @@
--- A port that goes through a frame, whatever is offered to it meanwhile.
+-- A port that goes through a frame, with any offers during it.
 use Rattle.std.specs.Prelude.{nat_lt, slice_get}
 use Rattle.std.proofs.Common.{◌≡◌, ℕ, zero, suc, ◌+◌, ◌<◌, ◌≤◌, true, false, ◌++◌, Option, Some, None, List, [], ◌∷◌, length, take, refl, sym, ap, subst, ◌∙◌, arith, inl, inr}
 use Rattle.std.proofs.Math.Dec.{ltb, eqb}
@@ -62,7 +62,7 @@ unsent-gains (Some WentOff) un frames p = refl
 unsent-gains (Some Recovered) un frames p = refl
 unsent-gains None un frames p = refl
 
--- two ports with one queue, of the same room
+-- two ports with the same queue and capacity
 pub record SameQueue (p q : PortState) : Type 0 where
   pub queue : p.queue ≡ q.queue
   pub room : p.queue_room ≡ q.queue_room
@@ -97,7 +97,7 @@ receiver-unsent f w is kept other o = elim (cases_lt o (length (stuffed_part f))
       (unsent-end f (behind_part f o))
 ]
 
--- a frame that waits behind others, before a level or behind it
+-- a frame that waits after others, before a level or after it
 pub offered-through : (q : PortState) (x : Level) (g : Parts) → port_step (port_offered g q) x ≡ port_offered g (port_step q x) → SameQueue (port_step q x) q → port_step (with_offer g q) x ≡ with_offer g (port_step q x)
 offered-through q x g more queue =
     let after = port_step q x in
@@ -148,7 +148,7 @@ module _ (f : Parts) (is : IsFrame f) (o : ℕ) (some : 0 < o) (within : o < len
         let same = unsent-queue event unsent (at_mac (frame_state f r.waits 0 r.counters (o + 1)) q) in
         record { queue = ap (λ (p : PortState). p.queue) (rides-outcome q r other) ∙ same.queue; room = ap (λ (p : PortState). p.queue_room) (rides-outcome q r other) ∙ same.room }
 
-    -- what is offered before the bit time may as well be offered behind it
+    -- what is offered before the bit time may as well be offered after it
     pub rides-offered : (g : Parts) → port_step (with_offer g q) (level_at (with_intermission f) o) ≡ with_offer g (port_step q (level_at (with_intermission f) o))
     rides-offered g =
         let state = frame_state f r.waits 0 r.counters (o + 1) in
@@ -159,11 +159,11 @@ module _ (f : Parts) (is : IsFrame f) (o : ℕ) (some : 0 < o) (within : o < len
 
 -- ---- a port that sends f
 
--- f stands in the queue until it has been sent
+-- f is in the queue until it has been sent
 abbrev pub IsKept : Parts → ℕ → PortState → Type 0
 IsKept f o q = o ≤ length (stuffed_part f) + 9 → (n : ℕ) × (slice_get q.queue n ≡ Some f)
 
--- what is offered behind it leaves it there
+-- what is offered after it leaves it there
 pub offered-kept : (f : Parts) (o : ℕ) (g : Parts) (q : PortState) → IsKept f o q → IsKept f o (port_offered g q)
 offered-kept f o g q kept early = let at = kept early in (at.0, stands-on q.queue at.0 at.1)
   where
@@ -179,7 +179,7 @@ shorter-without f [] = omega arith
 shorter-without f (g ∷ queue) =
     cond_both {A = List Parts} (same_field f g) queue (g ∷ without f queue) (λ q. length q ≤ length (g ∷ queue)) (λ e. omega arith) (λ e. omega (arith, shorter-without f queue))
 
--- one queue is no longer than another, and has its room
+-- one queue is no longer than another, and has its capacity
 pub record NoLonger (p q : PortState) : Type 0 where
   pub shorter : length p.queue ≤ length q.queue
   pub room : p.queue_room ≡ q.queue_room
@@ -214,7 +214,7 @@ run-no-longer (x ∷ levels) q =
     let one = step-no-longer q x in
     record { shorter = omega (arith, more.shorter, one.shorter); room = more.room ∙ one.room }
 
--- that f was sent is noted beside what is offered behind it
+-- that f was sent is noted independently of what is offered after it
 sent-gains : (f : Parts) (frames : List Parts) (p : PortState) (n : ℕ) → slice_get p.queue n ≡ Some f → port_noting (Some (Sent f)) (gains frames p) ≡ gains frames (port_noting (Some (Sent f)) p)
 sent-gains f frames p n stands =
     ap (λ queue. port_logging (record { frame = f; sent = true }) (record p { queue = queue })) (without-behind f p.queue frames n stands)
@@ -256,7 +256,7 @@ module _ (f : Parts) (is : IsFrame f) (o : ℕ) (some : 0 < o) (within : o < len
       ∙ step-port_noting q Recessive (settled f (is_passive (counted FrameSent c)) 0 (counted FrameSent c)) None
       (ap (λ m. (mac_step m (waiting q.queue) Recessive).0) state ∙ ap (λ p. p.0) step) (ap (λ m. (mac_step m (waiting q.queue) Recessive).1) state ∙ ap (λ p. p.1) step)
 
-  -- what is offered before the bit time may as well be offered behind it, where there is room
+  -- what is offered before the bit time may as well be offered after it, if there is space
   own-offered : (q : PortState) (c : ConfineParts) → is_bus_off c ≡ false → q.mac ≡ frame_state f (Some f) 0 c o → IsKept f o q → (g : Parts) →
       port_step (port_offered g q) (level_at (with_intermission f) o) ≡ port_offered g (port_step q (level_at (with_intermission f) o))
   own-offered q c on mac kept g = elim (cases_eq o (length (stuffed_part f) + 12)) [
@@ -288,7 +288,7 @@ offered-mac g q = cond_both {A = PortState} (nat_lt (length q.queue) q.queue_roo
 
 -- ---- from its start of frame on
 
--- the controller of a port with which f begins, behind some levels of it
+-- the controller of a port at which f begins, after some levels of it
 pub run-rides : (f : Parts) (p : PortState) (next : Option Parts) → Enters f p next → (o : ℕ) → suc o < length (with_intermission f) →
     (port_run p (take (suc o) (with_intermission f))).mac ≡ frame_state f next 0 p.mac.counters (suc o)
 run-rides f p next enters o within =

@@ -41,7 +41,7 @@ wire_000 = levels_of (codes "000001000001000001000001000001000001000010111111111
 abbrev wire_001 : List Level
 wire_001 = levels_of (codes "00000100000101000001000100010000100111011111111111")
 
--- A log with room for one entry misses the second.
+-- A log with capacity for one entry misses the second.
 
 abbrev heard_two : PortState
 heard_two = port_run (fresh_port idle 1 1) (wire_001 ++ wire_000)
@@ -88,7 +88,7 @@ both_sent : port_run joined_later (drop 10 wire_001 ++ wire_000) ≡ record (fre
 unfolding port_run port_step waiting without mac_step agrees crc_of frame_of frame_len bits_of unstuffed head arbitration_field
 both_sent = refl
 
--- Two overload frames of its own, one behind the other.
+-- Two overload frames of its own, one after the other.
 
 abbrev overload_frame : List Level
 overload_frame = replicate 6 Dominant ++ replicate 8 Recessive
@@ -110,12 +110,12 @@ no_third_overload = refl
 
 -- Each rule of a port, at one step: [Frame that waits], [Offer], [Sent], [Received], [Full log] of docs/ACCESS.md.
 
--- three frames wait, of which the second goes first in arbitration, and there is room for two entries
+-- three frames wait, of which the second has the highest priority, and there is space for two entries
 abbrev three_wait : PortState
 three_wait = record (fresh_port idle 3 2) { queue = third ∷ first ∷ second ∷ [] }
 
--- [Frame that waits] a remote frame goes behind the data frame of its identifier, and an extended frame behind
--- the standard one of its first eleven bits
+-- [Frame that waits] a remote frame has lower priority than the data frame of its identifier, and an extended frame than the standard one
+-- of its first eleven bits
 remote_waits_behind : waiting (remote_000 ∷ empty_frame 0 ∷ []) ≡ Some (empty_frame 0)
 unfolding waiting arbitration_field bits_of
 remote_waits_behind = refl
@@ -128,7 +128,7 @@ nothing_waits : waiting [] ≡ None
 unfolding waiting
 nothing_waits = refl
 
--- a start of frame is driven exactly where a frame waits
+-- a start of frame is driven exactly if a frame waits
 start_driven : port_drives three_wait ≡ Dominant
 unfolding port_drives waiting mac_drives arbitration_field bits_of
 start_driven = refl
@@ -137,11 +137,11 @@ no_start_driven : port_drives (fresh_port idle 3 2) ≡ Recessive
 unfolding port_drives waiting mac_drives
 no_start_driven = refl
 
--- [Offer] behind the others
+-- [Offer] after the others
 offered_behind : (port_offered second (port_offered first (fresh_port idle 3 2))).queue ≡ first ∷ second ∷ []
 offered_behind = refl
 
--- [Sent] the first frame of the field leaves, and is logged; the one behind it with the same field stays
+-- [Sent] the first frame of the field leaves, and is logged; the one after it with the same field stays
 first_sent : port_noting (Some (Sent first)) three_wait ≡ record three_wait { queue = third ∷ second ∷ []; log = sent first ∷ [] }
 unfolding without arbitration_field bits_of
 first_sent = refl
@@ -150,15 +150,15 @@ first_sent = refl
 not_sent : map (λ event. port_noting event three_wait) (Some Lost ∷ Some (Error Ack) ∷ Some Overload ∷ Some WentOff ∷ Some Recovered ∷ None ∷ []) ≡ replicate 6 three_wait
 not_sent = refl
 
--- [Received] a frame is logged, and the queue stays, even where the same frame waits
+-- [Received] a frame is logged, and the queue stays, even if the same frame waits
 frame_taken : port_noting (Some (Received first)) three_wait ≡ record three_wait { log = taken first ∷ [] }
 frame_taken = refl
 
--- an entry comes behind the earlier ones
+-- an entry comes after the earlier ones
 second_taken : port_noting (Some (Received second)) (port_noting (Some (Received first)) three_wait) ≡ record three_wait { log = taken first ∷ taken second ∷ [] }
 second_taken = refl
 
--- [Full log] an entry without room is counted, be it received or sent, and the sent frame leaves all the same
+-- [Full log] an entry without space is counted, whether received or sent, and the sent frame leaves all the same
 full_and_received : port_noting (Some (Received first)) (record three_wait { log_room = 0 }) ≡ record three_wait { log_room = 0; missed = 1 }
 full_and_received = refl
 

@@ -21,7 +21,7 @@ use Rattle.can_node.proofs.WaitingLemmas.{behind}
 
 -- ---- places of slots
 
--- a frame of the queue stands in a slot
+-- a frame of the queue is in a slot
 slot_of : (slots : List (Option Parts)) (n : ℕ) (f : Parts) → slice_get (frames_in slots) n ≡ Some f → (place : ℕ) × (get_or slots place None ≡ Some f)
 slot_of [] n f e = absurd (let h : None ≡ Some f = e in cc)
 slot_of (None ∷ slots) n f e = let h = slot_of slots n f e in (suc h.0, h.1)
@@ -48,7 +48,7 @@ waiting_one_of (g ∷ queue) w e = by (waiting queue) (λ v k. waiting_one_of qu
         by_test true k = let h = some v refl in (suc h.0, h.1 ∙ k)
         by_test false k = (zero, k)
 
--- what goes neither before a frame nor behind it has its field
+-- a frame with neither higher nor lower priority has the same field
 passes : (f g : Parts) → goes_before g f ≡ false → same_field f g ≡ false → goes_before f g ≡ true
 passes f g first other = by (field_cmp (arbitration_field f) (arbitration_field g)) refl
   where

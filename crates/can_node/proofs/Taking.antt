@@ -1,4 +1,4 @@
--- Each frame that was received or sent stands in the levels.
+-- Each frame that was received or sent is in the levels.
 use Rattle.std.proofs.Common.{◌≡◌, ℕ, suc, ◌+◌, Option, Some, None, List, [], take, subst, arith}
 use Rattle.can_frame.specs.declared.level.Level.{Level}
 use Rattle.can_mac.specs.declared.event.Event.{Event}
@@ -9,7 +9,7 @@ use Rattle.can_mac.proofs.Hearing.{IsTold}
 use Rattle.can_mac.proofs.HearingTurns.{AreTurns, MacKnows, turns-told}
 use Rattle.can_node.specs.Listening.{IsTrueAt, Took}
 
--- what an event tells of the levels up to it is what it claims of all of them
+-- what an event claims of the levels so far it claims of all of them
 pub IsTrueAt-told : (levels : List Level) (t : ℕ) (event : Option Event) → IsTold event (take (t + 1) levels) → IsTrueAt levels t event
 IsTrueAt-told levels t (Some (Received f)) h = record { h = h.h; spelled = h.spelled; last = h.last; spells = h.spells; holds = h.holds; ends = h.ends }
 IsTrueAt-told levels t (Some (Sent f)) h = h

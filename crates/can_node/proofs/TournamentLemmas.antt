@@ -69,13 +69,13 @@ under_le n m here = omega arith
 under_le n m (left u) = let h = under_le (2 * n) m u in omega (arith, h)
 under_le n m (right u) = let h = under_le (2 * n + 1) m u in omega (arith, h)
 
--- another node stands under one of the two below
+-- another node is under one of the two children
 pub under_split : (n m : ℕ) → n < m → Under n m → Under (2 * n) m ⊎ Under (2 * n + 1) m
 under_split n m l here = absurd (omega (arith, l))
 under_split n m l (left u) = inl u
 under_split n m l (right u) = inr u
 
--- each node stands under the first
+-- each node is under the first
 under_first : (fuel n m : ℕ) → n ≤ fuel → 1 ≤ n → Under n m → Under 1 m
 under_first zero n m f l u = absurd (omega (arith, f, l))
 under_first (suc fuel) n m f l u =
@@ -150,7 +150,7 @@ module _ (winners : List (Option Entrant)) (slots : List (Option Parts)) where
         let over = under_le (2 * n + 1) m u in
         leads_trans (at n) (at (2 * n + 1)) (at m) (leads-below n l (omega (arith, over, w))).1 (leads-under (2 * n + 1) m (omega (arith, l)) w u)
 
-    -- and stands in a slot
+    -- and is in a slot
     wins-by : (fuel n : ℕ) (e : Entrant) → 1 ≤ n → width ≤ n + fuel → at n ≡ Some e → Stands slots e
     wins-by zero n e l f is = entrant-stands slots (n - width) e (sym (at-past n (omega (arith, f))) ∙ is)
     wins-by (suc fuel) n e l f is =
@@ -194,7 +194,7 @@ module _ (winners : List (Option Entrant)) (slots others : List (Option Parts)) 
       ∙ sym (ap (λ a. earlier_of a (winner_at winners others (2 * n + 1))) (at-other (2 * n) apart_left)
       ∙ ap (earlier_of (winner_at winners slots (2 * n))) (at-other (2 * n + 1) apart_right))
 
--- ---- a node that is played anew
+-- ---- a node that is played again
 
 module _ (winners : List (Option Entrant)) (slots : List (Option Parts)) (node : ℕ) where
   abbrev below : Option Entrant
@@ -206,7 +206,7 @@ module _ (winners : List (Option Entrant)) (slots : List (Option Parts)) (node :
   size : length anew ≡ length winners
   size = length-set winners node below
 
-  -- where the winner stays, those of the nodes over it do
+  -- if the winner stays, those of the nodes over it do
   pub settled : node < length winners → (changed : ℕ) → node ≡ changed / 2 → below ≡ get_or winners node None → IsPlayedBut changed winners slots → IsPlayed winners slots
   settled inner changed half stays h n l w =
       elim (cases_eq n node) [

@@ -44,7 +44,7 @@ module _ (f g : Parts) where
   pub Shares-same_field : Shares f g → same_field f g ≡ true
   Shares-same_field h = ap is_equal ((key_cmp-tells f g).equal.1 h)
 
--- of three frames: where the first goes before the third, it goes before the second, or the second before the third
+-- of three frames: if the first has priority over the third, it has priority over the second, or the second over the third
 pub Wins-between : (f g h : Parts) → Wins f h → Wins f g ⊎ Wins g h
 Wins-between f g h w = by_rank (fields_ranked f g)
   where
@@ -85,7 +85,7 @@ pick_assoc test f g h trans between =
       ]
     ]
 
--- what waits when a frame is put behind those of which this one waits
+-- the pending frame when a frame is queued after those whose pending frame is this one
 abbrev pub behind : Option Parts → Parts → Option Parts
 behind None f = Some f
 behind (Some w) f = Some (earlier w (Some f))

@@ -1,5 +1,5 @@
--- What a move makes of a controller that waits for the bus to rest: it goes on waiting and tells of no
--- frame, or ten recessive levels stand in a row.
+-- The effect of a move on a controller that waits until the bus is at rest: it still waits and has no event of a frame, or there are ten
+-- recessive levels in a row.
 use Rattle.std.proofs.Common.{◌≡◌, ℕ, ◌+◌, Bool, true, false, ◌&&◌, Option, List, [], ◌∷◌, ◌++◌, refl, subst, arith, cond, ◌⊎◌, inl, inr}
 use Rattle.std.specs.Prelude.{nat_lt}
 use Rattle.std.proofs.lemmas.Bool.{cases_Bool, cond_both, ltb-false}
@@ -21,7 +21,7 @@ use Rattle.can_node.proofs.Rests.{EndsInRest, HasRested, EndsInRest-more, EndsIn
 use Rattle.can_node.proofs.RestingMoves.{WaitsAt, flag-waits}
 use Rattle.can_wire.specs.Stuffing.{run_after}
 
--- a move that keeps waiting with these levels, and tells of no frame
+-- a move that keeps waiting with these levels, and has no event of a frame
 pub record KeepsWait (v : MacMove) (levels : List Level) : Type 0 where
   pub at : (c : ConfineParts) → WaitsAt v.phase c levels
   pub no_frame : is_of_frame v.event ≡ false
@@ -35,13 +35,13 @@ either false p q = q
 error : (cause : Option Cause) (un : Bool) (s : Stance) (kind : ErrorKind) (levels : List Level) → KeepsWait (errs_by cause un s kind) levels
 error cause un s kind levels = record { at = λ c. flag-waits s.passive un c levels; no_frame = refl }
 
--- intermission, or an overload frame of the controller's own, behind eight recessive levels
+-- intermission, or an overload frame of the controller's own, after eight recessive levels
 enters : (s : Stance) (role : Role) (levels : List Level) → EndsInRest 8 levels → KeepsWait (enters_intermission s role) levels
 enters s (Sender f) levels h = record { at = λ c. h; no_frame = refl }
 enters s Receiver levels h =
     either (nat_lt 0 s.overloads.pending && nat_lt s.overloads.used 2) (record { at = λ c. tt; no_frame = refl }) (record { at = λ c. h; no_frame = refl })
 
--- a passive error flag, and behind it
+-- a passive error flag, and after it
 passive_flag : (x : Level) (run : ℕ) (un : Bool) (c : ConfineParts) (levels : List Level) → WaitsAt (passive_phase x run un) c levels
 passive_flag x run un c levels = by_test (nat_lt run 6)
   where
@@ -49,7 +49,7 @@ passive_flag x run un c levels = by_test (nat_lt run 6)
     by_test true = tt
     by_test false = tt
 
--- behind ten recessive levels in a row, or still waiting
+-- after ten recessive levels in a row, or still waiting
 abbrev RestedOr : MacMove → List Level → Level → Type 0
 RestedOr v since x = HasRested since ⊎ KeepsWait v (since ++ x ∷ [])
 

@@ -1,4 +1,4 @@
--- What holds of a controller's medium access holds of it in one way: a struct may keep it as a ghost field.
+-- The invariant of medium access is a proposition, so that a struct may keep it as a ghost field.
 use Rattle.std.proofs.Props.{props}
 use Rattle.can_mac.specs.declared.phase.Phase.TheVariants.{Joining, Idle, StuffedPart, CrcDelimiter, AckSlot, AckDelimiter, EndOfFrame, ErrorFlag, PassiveFlag, OverloadFlag, AfterFlag, Delimiter, Intermission, Suspend, BusOff}
 use Rattle.can_mac.specs.declared.phase.Role.{Role}

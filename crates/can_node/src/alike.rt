@@ -5,13 +5,12 @@ use crate::port::Port;
 use can_frame::Level;
 use can_mac::Event;
 
-/// What a port made of one bit time: the level that it drove, and the event that it told.
+/// What a port does in one bit time: the level that it drives, and its event.
 type Answer = (Level, Option<Event>);
 
-/// Has two ports sample one level, whatever kinds of ports they are. If they are in one state, they have
-/// driven one level and told one event, and are in one state again. So ports in one state that sample
-/// the same levels, and are offered and asked the same, have the same levels, events, logs and
-/// counters.
+/// Two ports of any kinds sample one level. If they were in the same state, they drove the same level, report the
+/// same event, and are in the same state afterwards. So ports in the same state stay alike, with equal logs and
+/// counters, as long as they sample the same levels and get the same offers and overload requests.
 pub fn sample_both<P: Port, Q: Port>(one: &mut P, other: &mut Q, seen: Level) -> (Answer, Answer)
     ensures first { P.port one.new ≡ port_step (P.port one.old) seen }
     ensures second { Q.port other.new ≡ port_step (Q.port other.old) seen }

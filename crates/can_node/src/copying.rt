@@ -2,7 +2,7 @@ ghost use Rattle.std.specs.Prelude.{◌≡◌, ◌≤◌, vec_capacity, IfOk};
 
 use std::alloc::{AllocError, Global};
 
-/// The same items once more, in memory of their own for so many.
+/// A copy of these items, in memory of its own with capacity for `room`.
 pub(crate) fn copied_with_room<T: Copy>(
     alloc: Global,
     items: &[T],

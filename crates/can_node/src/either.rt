@@ -12,12 +12,12 @@ use can_fault::State;
 use can_frame::{Frame, Level};
 use can_mac::{Event, Poised};
 
-/// A port of one kind or the other, which answers as the node in it.
+/// A port of one of the two kinds, with the outputs of the node in it.
 #[derive(Drop)]
 pub enum EitherNode {
-    /// The unstuffed levels one by one.
+    /// Holds the unstuffed levels one by one.
     Plain(PlainNode),
-    /// The unstuffed levels in a register.
+    /// Holds the unstuffed levels in a register.
     Packed(PackedNode),
 }
 

@@ -1,10 +1,10 @@
 use can_frame::Frame;
 
-/// A frame in a port's log.
+/// A frame in the log of a port.
 #[derive(Clone, Copy, Debug, PartialEq, Eq)]
 pub struct Entry {
     /// The frame.
     pub frame: Frame,
-    /// Whether the port sent it; else it took it from the bus.
+    /// True if the port sent the frame, false if it received it.
     pub sent: bool,
 }

@@ -1,33 +1,32 @@
-//! Ports: a controller with a queue of frames to send and a log of the frames that were on the bus, and
-//! what it may claim of the levels that it saw. (Bosch CAN 2.0 part B, sections 2, 3.2 and 5)
+//! Ports: CAN nodes, each a controller with a queue of frames to send and a log of the frames that it sent and
+//! received. (Bosch CAN 2.0 part B, sections 2, 3.2 and 5)
 //!
-//! [`Port`] is what a bus needs of one; [`Node`] is a port with memory of its own, all of which is
-//! taken when it is made. [`listen`] has a port sample levels, and its contract says what is then true
-//! of them, whatever they are: a frame that was received or sent stands in them, and between an error
-//! and the next frame the bus was at rest.
+//! [`Port`] is the interface that a bus needs. [`Node`] is a port that allocates all of its memory when it is made.
+//! [`listen`] lets a port sample levels. Its contract states what is then true of them, whatever they are: each frame
+//! that the port reports was on the bus, and between an error and the next frame the bus was recessive.
 //!
 //! | File | What it has | Defined in |
 //! |---|---|---|
-//! | `port.rt` | [`Port`], what a port does | `specs/Ports.antt`, `specs/Passing.antt` |
+//! | `port.rt` | [`Port`], the interface of a port | `specs/Ports.antt`, `specs/Passing.antt` |
 //! | `entry.rt` | [`Entry`], a frame in a log | |
 //! | `node.rt` | [`Node`], a controller with a queue and a log: [`PlainNode`], [`PackedNode`] | `specs/Ports.antt` |
 //! | `either.rt` | [`EitherNode`], a port of either kind | |
-//! | `alike.rt` | [`sample_both`]: ports of whatever kinds that are in one state stay alike | `specs/Ports.antt` |
-//! | `copying.rt` | a list once more, with room behind it | |
-//! | `queue.rt` | the frames that wait, and which goes first | `specs/Ports.antt`, `specs/Waiting.antt` |
-//! | `queue/winners.rt` | a tournament of the slots in which they stand | `specs/Tournament.antt` |
-//! | `queue/entrant.rt` | who takes part in it | `specs/Tournament.antt` |
-//! | `log.rt` | the frames that were sent and taken | `specs/Ports.antt` |
-//! | `listening.rt` | [`listen`], and what a port claims | `specs/Listening.antt` |
-//! | `laws.rt` | which frame of a queue waits | `specs/Waiting.antt` |
+//! | `alike.rt` | [`sample_both`]: ports of any kinds that are in the same state stay alike | `specs/Ports.antt` |
+//! | `copying.rt` | a copy of a list, with capacity for more | |
+//! | `queue.rt` | the queue, and its pending frame | `specs/Ports.antt`, `specs/Waiting.antt` |
+//! | `queue/winners.rt` | a tournament of the slots of a queue | `specs/Tournament.antt` |
+//! | `queue/entrant.rt` | the entrants of the tournament | `specs/Tournament.antt` |
+//! | `log.rt` | the log of sent and received frames | `specs/Ports.antt` |
+//! | `listening.rt` | [`listen`], and what a port claims of the levels | `specs/Listening.antt` |
+//! | `laws.rt` | which frame of a queue is pending | `specs/Waiting.antt` |
 //!
-//! The queue has a slot for each frame, in the order of the offers, and over the slots a tournament: an offer, and a
-//! frame that leaves, cost the logarithm of the number of frames. The frame that goes first is kept, so that no bit
-//! time has to look for it. `Node`, its queue and its log keep what holds of them in ghost
-//! fields, since a law of a trait, as `valid` of [`Port`], speaks of every value of an implementing type.
+//! The queue has a slot for each frame, in the order of the offers, and a tournament over the slots. So an offer, and
+//! a frame that leaves, take time logarithmic in the number of frames. The pending frame is stored, and no bit time
+//! has to search for it. `Node`, its queue and its log keep their invariants in ghost fields, because a law of a
+//! trait, such as `valid` of [`Port`], is about every value of the implementing type.
 //!
-//! Crates above find lemmas in `proofs/`, which `proofs/Lib.antt` lists with what each file has.
-//! `Rows` computes the definitions on levels whose outcome is known.
+//! Crates that use this one find lemmas in `proofs/`; `proofs/Lib.antt` lists the files. `Rows` has hand-computed
+//! test vectors for the definitions.
 #![tactic(auto)]
 
 mod alike;

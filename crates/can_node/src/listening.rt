@@ -6,10 +6,10 @@ ghost use Rattle.can_node.specs.Ports.{port_events, port_run};
 use crate::port::Port;
 use can_frame::Level;
 
-/// Has a port sample these levels, one a bit time, whatever it drives. What it then claims is true of
-/// the levels, whatever they are: each frame that it received or sent stands in them, if it was idle
-/// or joining at first; and from every state, between an error, an overload or going off and the next
-/// event of a frame the bus was at rest. (Bosch CAN 2.0 part B, sections 3.2 and 5)
+/// Lets a port sample these levels, one per bit time, whatever it drives. What the port reports is then true of the
+/// levels, whatever they are. Each frame that it received or sent is in the levels, if it was idle or joining at
+/// first. From any state, the bus was at rest between an error, an overload flag or bus off and the next event of a
+/// frame. (Bosch CAN 2.0 part B, sections 3.2 and 5)
 pub fn listen<P: Port>(port: &mut P, seen: &[Level])
     ensures run { P.port port.new ≡ port_run (P.port port.old) seen.now }
     ensures rested { Rested seen.now (port_events (P.port port.old) seen.now) }

@@ -7,7 +7,7 @@ use crate::copying::copied_with_room;
 use crate::entry::Entry;
 use std::alloc::{AllocError, Global};
 
-/// The frames that were sent and taken, the oldest first.
+/// The log of sent and received frames, the oldest first.
 #[derive(Drop)]
 pub struct Log {
     entries: Vec<Entry>,
@@ -20,7 +20,7 @@ pub struct Log {
 }
 
 impl Log {
-    /// An empty log, with memory for so many entries.
+    /// An empty log with capacity for `room` entries.
     pub fn with_room(alloc: Global, room: usize) -> Result<Log, AllocError>
         ensures entries { IfOk result (λ l. l.entries.items ≡ []) }
         ensures room { IfOk result (λ l. l.room ≡ room) }
@@ -34,7 +34,7 @@ impl Log {
         })
     }
 
-    /// The same log once more, with memory of its own.
+    /// A copy of this log, with memory of its own.
     pub fn copied(&self, alloc: Global) -> Result<Log, AllocError>
         ensures entries { IfOk result (λ l. l.entries.items ≡ self.now.entries.items) }
         ensures room { IfOk result (λ l. l.room ≡ self.now.room) }
@@ -54,14 +54,14 @@ impl Log {
         &self.entries
     }
 
-    /// How many entries there was no room for. It stops at the highest number.
+    /// The number of entries that did not fit. It stops at the highest `u32`.
     pub fn missed(&self) -> u32
         ensures { result ≡ self.now.missed }
     {
         self.missed
     }
 
-    /// Puts an entry behind the others. Where the log is full, the entry is missed.
+    /// Appends an entry. If the log is full, the entry is counted as missed instead.
     pub fn push(&mut self, entry: Entry)
         ensures taken { length self.old.entries.items < self.old.room → self.new.entries.items ≡ self.old.entries.items ++ entry ∷ [] }
         ensures none_missed { length self.old.entries.items < self.old.room → self.new.missed ≡ self.old.missed }
@@ -69,7 +69,7 @@ impl Log {
         ensures missed { self.old.room ≤ length self.old.entries.items → self.new.missed ≡ min (self.old.missed + 1) missed_limit }
         ensures room { self.new.room ≡ self.old.room }
     {
-        // Who reads a frame's bytes knows that it is a frame.
+        // reading the bytes of a frame shows the prover that it is within its limits
         let _ = entry.frame.bytes();
         if self.entries.len() < self.room {
             self.entries.push_reserved(entry);

@@ -20,8 +20,8 @@ use can_frame::{Frame, Level};
 use can_mac::{Event, MediumAccess, Phase, Poised};
 use std::alloc::{AllocError, Global};
 
-/// A port with memory of its own, all of which is taken when it is made: no later call takes memory,
-/// and none can fail for lack of it. `B` holds the unstuffed levels of the frame on the bus.
+/// A port that allocates all of its memory when it is made: no later call allocates, or fails because memory is
+/// short. `B` holds the unstuffed levels of the frame on the bus.
 #[derive(Drop)]
 pub struct Node<B: FrameBits> {
     mac: MediumAccess<B>,
@@ -40,9 +40,8 @@ impl<B: FrameBits> Node<B> {
     ghost use Rattle.can_mac.specs.State.{idle, joining};
     ghost use Rattle.can_node.specs.Ports.{fresh_port};
 
-    /// A port that is on the bus and idle, with room for so many frames that wait and so many entries
-    /// of the log. It fails only if an allocation does, or if the queue is to have room for more than 2^60 frames, and then
-    /// keeps nothing.
+    /// An idle port on the bus, with capacity for `queue` waiting frames and `log` entries. It fails, and keeps
+    /// nothing, only if an allocation fails or `queue` is more than 2^60.
     pub fn new(alloc: Global, queue: usize, log: usize) -> Result<Self, AllocError>
         ensures port { IfOk result (λ n. ⟦<Node<B> as Port>⟧.port n ≡ fresh_port idle queue log) }
         ensures no_rooms { queue ≡ 0 → log ≡ 0 → IsOk result }
@@ -50,7 +49,8 @@ impl<B: FrameBits> Node<B> {
         Node::starting(MediumAccess::idle(), alloc, queue, log)
     }
 
-    /// The same, of a port that waits for eleven recessive levels in a row before it is on the bus.
+    /// A port that waits for eleven recessive levels in a row before it takes part, with capacity as of
+    /// [`Node::new`]. It fails as that does.
     pub fn joining(alloc: Global, queue: usize, log: usize) -> Result<Self, AllocError>
         ensures port { IfOk result (λ n. ⟦<Node<B> as Port>⟧.port n ≡ fresh_port joining queue log) }
         ensures no_rooms { queue ≡ 0 → log ≡ 0 → IsOk result }
@@ -58,8 +58,7 @@ impl<B: FrameBits> Node<B> {
         Node::starting(MediumAccess::joining(), alloc, queue, log)
     }
 
-    /// The same port once more, with memory of its own. It fails only where an allocation does, and then keeps
-    /// nothing.
+    /// A copy of this port, with memory of its own. It fails, and keeps nothing, only if an allocation fails.
     pub fn copied(&self, alloc: Global) -> Result<Self, AllocError>
         ensures { IfOk result (λ n. ⟦<Node<B> as Port>⟧.port n ≡ ⟦<Node<B> as Port>⟧.port self.now) }
     {
@@ -72,7 +71,7 @@ impl<B: FrameBits> Node<B> {
         })
     }
 
-    /// A port with this controller, before anything was offered to it.
+    /// A port with this controller and an empty queue and log.
     fn starting(
         mac: MediumAccess<B>,
         alloc: Global,
@@ -97,7 +96,7 @@ impl<B: FrameBits> Node<B> {
     ghost use Rattle.can_node.specs.Passing.{LetsPass};
     ghost use Rattle.can_node.specs.Ports.{port_drives, port_noting, port_event, port_run, port_step};
 
-    /// A level that may tell something.
+    /// Samples a level that may cause an event.
     #[tactic(auto, unfolding(crate::specs::Ports::port_step))]
     #[inline(never)]
     fn take(&mut self, seen: Level) -> Option<Event>
@@ -109,7 +108,7 @@ impl<B: FrameBits> Node<B> {
         event
     }
 
-    /// A level behind which the port may drive dominant.
+    /// Samples a level after which the port may drive dominant.
     #[tactic(auto, unfolding(crate::specs::Ports::port_step))]
     #[inline(never)]
     fn turn_apart(&mut self, seen: Level) -> Level
@@ -127,8 +126,7 @@ impl<B: FrameBits> Node<B> {
         &self.mac
     }
 
-    /// Samples one of many levels. Off the bus, where a port goes through whole frames of others, it just counts for
-    /// recovery.
+    /// Samples one of many levels. A port that is bus off only counts it for recovery.
     #[tactic(auto, unfolding(crate::specs::Ports::port_step))]
     #[inline(always)]
     fn sample_in_passing(&mut self, seen: Level)
@@ -139,7 +137,7 @@ impl<B: FrameBits> Node<B> {
         }
     }
 
-    /// The frame with which the port begins, where one that begins may pass it at once.
+    /// The frame with which the port starts, if a whole frame may pass it in one step.
     fn next(&self) -> Option<&Frame>
         ensures { (next : Option Parts) → IsPoised self.now.mac (waiting (frames_in self.now.queue.slots.items)) next → option_copied result ≡ next }
     {
@@ -149,8 +147,8 @@ impl<B: FrameBits> Node<B> {
         }
     }
 
-    /// Whether it receives a frame, which another port hears too, and can send none of its own any more: behind the
-    /// arbitration of the frame with which it begins. (Bosch CAN 2.0 part B, section 3.1)
+    /// Whether it receives the frame that `leader` also takes part in, and can no longer send a frame of its own: it
+    /// starts with none, or the arbitration field of that has passed. (Bosch CAN 2.0 part B, section 3.1)
     fn has_lost(&self, leader: &Self, frame: &Frame) -> bool
         requires { LetsPass frame.now (⟦<Node<B> as Port>⟧.port self.now) }
         ensures part { IsTrue result → (front : FrontParts) × (leader.now.mac.phase ≡ Phase.StuffedPart front) }
@@ -167,7 +165,7 @@ impl<B: FrameBits> Node<B> {
         }
     }
 
-    /// What a frame that was sent, or received, makes of queue and log.
+    /// Updates queue and log after a frame that was sent or received.
     fn note_passed(&mut self, frame: &Frame, sent: bool)
         ensures { ⟦<Node<B> as Port>⟧.port self.new ≡ port_noting (Some (if sent then Sent frame.now else Received frame.now)) (⟦<Node<B> as Port>⟧.port self.old) }
     {
@@ -178,7 +176,7 @@ impl<B: FrameBits> Node<B> {
         }
     }
 
-    /// What an event makes of queue and log.
+    /// Updates queue and log after an event.
     #[tactic(auto, using(crate::proofs::PortLemmas::port_logging_is))]
     fn note(&mut self, event: &Option<Event>)
         ensures { ⟦<Node<B> as Port>⟧.port self.new ≡ port_noting event.now (⟦<Node<B> as Port>⟧.port self.old) }
@@ -221,7 +219,7 @@ impl<B: FrameBits> Port for Node<B> {
     #[tactic(auto, unfolding(crate::specs::Ports::port_step))]
     #[inline(always)]
     fn sample(&mut self, seen: Level) -> Option<Event> {
-        // most levels tell nothing, and then no event is made
+        // most levels cause no event, and then none is built
         if self.mac.takes_quietly(self.queue.waiting(), seen) {
             return None;
         }
@@ -231,7 +229,7 @@ impl<B: FrameBits> Port for Node<B> {
     #[tactic(auto, unfolding(crate::specs::Ports::port_step, crate::specs::Ports::port_drives))]
     #[inline(always)]
     fn turn(&mut self, seen: Level) -> Level {
-        // most ports hear a frame, whatever waits in them
+        // most ports receive a frame, and need not look for their pending one
         if self.mac.takes_silently(seen) {
             return Level::Recessive;
         }
@@ -313,7 +311,7 @@ impl<B: FrameBits> Port for Node<B> {
     }
 }
 
-/// Whether a frame that passes is the one with which a port begins; else it goes before that.
+/// Whether the frame that passes is the port's own. Otherwise it has higher priority, or the port starts with none.
 fn sends(next: Option<&Frame>, frame: &Frame) -> bool
     requires { GoesBehind frame.now (option_copied next) }
     ensures own { IsTrue result → option_copied next.entry ≡ Some frame.now }

@@ -15,17 +15,17 @@ use std::alloc::{AllocError, Global};
 
 /// The frames that wait to be sent, in the order in which they were offered.
 ///
-/// Each stands in a slot of its own. One that leaves empties its slot, and where no slot is left for an offer, the
-/// frames are moved together. Which frame goes first is told by a tournament of the slots. So an offer, and a frame
-/// that leaves, cost the logarithm of the number of frames.
+/// Each has a slot of its own. A frame that leaves empties its slot. If no slot is left for an offer, the frames are
+/// moved together. A tournament of the slots finds the frame with the highest priority. So an offer, and a frame that
+/// leaves, take time logarithmic in the number of frames.
 #[derive(Drop)]
 pub struct Queue {
     /// In the order of the offers.
     slots: Vec<Option<Frame>>,
     winners: Winners,
-    /// The frame that goes first, so that no bit time has to look for it.
+    /// The pending frame, stored so that no bit time has to search for it.
     first: Option<Frame>,
-    /// How many frames wait.
+    /// The number of frames that wait.
     count: usize,
     room: usize,
     ghost are_frames: { (n : ℕ) (f : Parts) → slice_get (frames_in slots.items) n ≡ Some f → IsFrame f },
@@ -39,7 +39,7 @@ pub struct Queue {
 }
 
 impl Queue {
-    /// An empty queue, with memory for so many frames.
+    /// An empty queue with memory for `room` frames.
     pub fn with_room(alloc: Global, room: usize) -> Result<Queue, AllocError>
         ensures frames { IfOk result (λ q. frames_in q.slots.items ≡ []) }
         ensures room { IfOk result (λ q. q.room ≡ room) }
@@ -57,7 +57,7 @@ impl Queue {
         })
     }
 
-    /// The same queue once more, with memory of its own.
+    /// A copy of this queue, with memory of its own.
     pub fn copied(&self, alloc: Global) -> Result<Queue, AllocError>
         ensures frames { IfOk result (λ q. frames_in q.slots.items ≡ frames_in self.now.slots.items) }
         ensures room { IfOk result (λ q. q.room ≡ self.now.room) }
@@ -71,21 +71,21 @@ impl Queue {
         })
     }
 
-    /// The frame that goes first.
+    /// The pending frame.
     pub fn waiting(&self) -> Option<&Frame>
         ensures { option_copied result ≡ waiting (frames_in self.now.slots.items) }
     {
         self.first.as_ref()
     }
 
-    /// Whether so many frames more fit.
+    /// Whether `count` more frames fit.
     pub fn has_room(&self, count: usize) -> bool
         ensures { IsTrue result ↔ (length (frames_in self.now.slots.items) + count ≤ self.now.room) }
     {
         count <= self.room - self.count
     }
 
-    /// Puts a frame behind the others. A full queue gives it back.
+    /// Appends a frame. A full queue returns it.
     pub fn push(&mut self, frame: Frame) -> Result<(), Frame>
         ensures fits { IsOk result ↔ (length (frames_in self.old.slots.items) < self.old.room) }
         ensures taken { OnOk result (frames_in self.new.slots.items ≡ frames_in self.old.slots.items ++ frame ∷ []) }
@@ -96,7 +96,7 @@ impl Queue {
         if self.count == self.room {
             return Err(frame);
         }
-        // Who reads a frame's bytes knows that it is a frame.
+        // reading the bytes of a frame shows the prover that it is within its limits
         let _ = frame.bytes();
         self.make_slot();
         let place = self.slots.len();
@@ -107,8 +107,8 @@ impl Queue {
         Ok(())
     }
 
-    /// Sees that there is a slot behind the last one. If not, moves the frames to the front, with slots behind them for
-    /// one offer more than there are frames, so that this is seldom.
+    /// Makes sure that a slot is free after the last one. If none is, it moves the frames to the front, with one more
+    /// free slot after them than there are frames, so that this is rare.
     fn make_slot(&mut self)
         requires { length (frames_in self.old.slots.items) < self.old.room }
         ensures frames { frames_in self.new.slots.items ≡ frames_in self.old.slots.items }
@@ -137,7 +137,7 @@ impl Queue {
     }
 }
 
-/// Empties a slot. If it is the last one it goes, so that the next offer finds it free.
+/// Empties a slot. The last slot is removed, so that the next offer finds it free.
 fn empty(slots: &mut Vec<Option<Frame>>, place: usize)
     requires { place < length slots.old.items }
     ensures frames { frames_in slots.new.items ≡ frames_in (set slots.old.items place None) }
@@ -152,10 +152,10 @@ fn empty(slots: &mut Vec<Option<Frame>>, place: usize)
     }
 }
 
-/// A queue for more would need more memory than there can be.
+/// A queue of more frames would need more memory than there can be.
 const MOST_FRAMES: usize = 1 << 60;
 
-/// The frame that goes first once this one stands behind the others.
+/// The pending frame after this one has been appended.
 fn first_with(first: Option<Frame>, frame: Frame) -> Frame
     ensures { MatchOption first (result ≡ frame) (λ f. result ≡ earlier_by f (Some frame)) }
 {

@@ -1,4 +1,4 @@
--- A rate allows no more hits in so many bit times than are borne.
+-- The error model allows no more hits in this many bit times than are tolerated.
 use Rattle.std.proofs.Common.{◌≡◌, ℕ, ◌≤◌, None, Option, Some, List, [], ◌∷◌, length, refl, arith}
 use Rattle.can_bus.specs.Course.{Transmission, hits_made}
 use Rattle.can_plan.specs.Borne.{AreHitBefore}

@@ -62,7 +62,7 @@ module _ (rate : HitRate) (block wide : ℕ) (m : Message) (higher : List Messag
       let from = from-first periodic first least (arrivals m n - 1) (n - m.longest) last.1 in
       omega arith
 
-  -- what is known of the messages before this one, with it or one behind it that blocks them
+  -- what is known of the higher-priority messages, with this one or a lower one that blocks them
   module _ (before : ℕ) (free : (n : ℕ) → 0 < n → demand (most_hits rate) (max (m.longest - 1) block) wide higher n ≤ n → before ≤ n) where
     pub busy-after : 0 < m.period → (n : ℕ) → Busy n → before ≤ n
     busy-after some n busy =
@@ -155,7 +155,7 @@ module _ (rate : HitRate) (block wide : ℕ) (m : Message) (higher : List Messag
       below = so_far.2;
     }
 
--- where blocking and widest are those of a ranking
+-- if blocking and widest are those of a ranking
 module _ (rate : HitRate) (limit : ℕ) (ranking : Ranking) (block wide : ℕ) (is_block : block ≡ blocking ranking) (is_wide : wide ≡ widest ranking) where
   pub enough-to : (q n : ℕ) → IsEnough (most_hits rate) block wide ranking.message ranking.higher q n → delayed (most_hits rate) ranking q n ≤ n
   enough-to q n h = let P : ℕ → ℕ → Type 0 = λ b w. demand (most_hits rate) (b + q * ranking.message.longest) w ranking.higher (n + 1) ≤ n in

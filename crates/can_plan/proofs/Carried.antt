@@ -62,7 +62,7 @@ module _ (rate : HitRate) (ms : List Message) (k : ℕ) (m next : Message) (at :
       (most_hits rate (long + widest (ranking_at ms (k + 1) next) - 5)) (widest (ranking_at ms (k + 1) next) + 13)
       (hits-grow rate (long + widest (ranking_at ms k m) - 5) (long + widest (ranking_at ms (k + 1) next) - 5) (omega arith)) (omega arith)
 
-  -- where those before the next are free, with the next or one behind it that blocks them, this one is
+  -- if those before the next are free, with the next or a lower one that blocks them, this one is
   pub free-before : (n : ℕ) → demand (most_hits rate) (max (next.longest - 1) (blocking (ranking_at ms (k + 1) next))) (widest (ranking_at ms (k + 1) next)) (take (k + 1) ms) n ≤ n →
       busied (most_hits rate) (ranking_at ms k m) n ≤ n
   free-before n h =
@@ -70,13 +70,13 @@ module _ (rate : HitRate) (ms : List Message) (k : ℕ) (m next : Message) (at :
       let hit = hit-more n in
       omega (arith, loaded n, sum_by-cons (λ (x : Message). arrivals x n * x.longest) m (take k ms))
 
--- ---- what is told of the place before
+-- ---- what is known of the place before
 
 none-or-before : (place : ℕ) → (place ≡ 0) ⊎ ((k : ℕ) × (place ≡ k + 1))
 none-or-before zero = inl refl
 none-or-before (suc k) = inr (k, omega arith)
 
--- the parts of the slice that lie before a place and behind it
+-- the parts of the slice before a place and after it
 pub ranking-here : (ms : List Message) (place : ℕ) (m : Message) → record { higher = take place ms; message = m; lower = take (length ms - (place + 1)) (drop (place + 1) ms) } ≡ ranking_at ms place m
 ranking-here ms place m =
     let lower : take (length ms - (place + 1)) (drop (place + 1) ms) ≡ drop (place + 1) ms = take_all (length ms - (place + 1)) (drop (place + 1) ms) (omega (arith, length-drop (place + 1) ms)) in
@@ -99,7 +99,7 @@ module _ (rate : HitRate) (ms : List Message) (place busy : ℕ) (next : Message
             (subst (λ p. demand (most_hits rate) (max (next.longest - 1) (blocking (ranking_at ms p next))) (widest (ranking_at ms p next)) (take p ms) n ≤ n) w.1 h))
       ]
 
--- ---- what is told of the place after
+-- ---- what is known of the place after
 
 -- no busy period is shorter
 at-least : (most : ℕ → ℕ) (limit : ℕ) (r : Ranking) (busy : Option ℕ) (known : ℕ) → IsBusyPeriod most limit r busy → MatchOption busy (known ≡ limit + 1) (λ long. known ≡ long) →

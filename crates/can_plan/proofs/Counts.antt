@@ -35,7 +35,7 @@ module _ (m : Message) where
   pub count-more : (r : Release) (s : List Release) → count s ≤ count (r ∷ s)
   count-more r s = elim (cases_Bool (has_field m.field r.frame)) [ inl e ↦ omega (arith, count-yes r s e) | inr e ↦ omega (arith, count-no r s e) ]
 
-  -- the newest first, each a period behind the one before
+  -- the newest first, each a period after the one before
   abbrev pub Spaced : List Release → Type 0
   Spaced [] = Unit {0}
   Spaced (x ∷ s) = ((y : Release) → IsIn s y → IsOf m y → IsOf m x → y.released + m.period ≤ x.released) × Spaced s
@@ -43,7 +43,7 @@ module _ (m : Message) where
   abbrev pub ReleasedFrom : ℕ → List Release → Type 0
   ReleasedFrom from s = (y : Release) → IsIn s y → IsOf m y → from ≤ y.released + m.jitter
 
-  -- so many before the newest
+  -- this many before the newest
   pub count-span : (from : ℕ) (x : Release) (s : List Release) → Spaced (x ∷ s) → ReleasedFrom from (x ∷ s) → IsOf m x → count s * m.period + from ≤ x.released + m.jitter
   count-span from x [] spaced began of = let first = began x (stands-here x []) of in omega arith
   count-span from x (y ∷ s) spaced began of =
@@ -63,7 +63,7 @@ module _ (m : Message) where
             omega arith
       ]
 
-  -- so many in a stretch
+  -- this many in a stretch
   pub count-le : 0 < m.period → (from long : ℕ) (s : List Release) → Spaced s → ReleasedFrom from s → ((y : Release) → IsIn s y → IsOf m y → y.released < from + long) → count s ≤ arrivals m long
   count-le periodic from long [] spaced began ended = omega arith
   count-le periodic from long (x ∷ s) spaced began ended =

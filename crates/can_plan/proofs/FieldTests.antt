@@ -56,7 +56,7 @@ filter-same test other same [] = refl
 filter-same test other same (x ∷ xs) =
     ap (λ b. cond b (x ∷ filter test xs) (filter test xs)) (same x) ∙ ap (λ l. cond (other x) (x ∷ l) l) (filter-same test other same xs)
 
--- an element that passes stands behind as many as pass before it
+-- an element that passes comes after the number of those that pass before it
 pub filter-place : {A : Type 0} (test : A → Bool) (xs : List A) (n : ℕ) (x : A) → slice_get xs n ≡ Some x → test x ≡ true → slice_get (filter test xs) (length (filter test (take n xs))) ≡ Some x
 filter-place test [] n x at passes = absurd (let h : None ≡ Some x = at in cc)
 filter-place test (y ∷ xs) zero x at passes =

@@ -38,7 +38,7 @@ demand-grows rate time widest ms a b periodic less =
     let hits = mul-le (most_hits rate (a + widest - 5)) (widest + 13) (most_hits rate (b + widest - 5)) (widest + 13) (hits-grow rate (a + widest - 5) (b + widest - 5) (omega arith)) (omega arith) in
     omega arith
 
--- a message in front, told apart
+-- a message in front, separately
 pub demand-cons : (rate : HitRate) (time widest : ℕ) (m : Message) (ms : List Message) (long : ℕ) →
     demand (most_hits rate) (time + arrivals m long * m.longest) widest ms long ≡ demand (most_hits rate) time widest (m ∷ ms) long
 demand-cons rate time widest m ms long = omega (arith, sum_by-cons (λ (n : Message). arrivals n long * n.longest) m ms)
@@ -47,7 +47,7 @@ pub periodic-cons : (m : Message) (ms : List Message) → 0 < m.period → ArePe
 periodic-cons m ms some periodic zero n e = let same : m ≡ n = (let h : Some m ≡ Some n = e in cc) in subst (λ (k : Message). 0 < k.period) same some
 periodic-cons m ms some periodic (suc k) n e = periodic k n e
 
--- where the numbers of a call are those of the ranking
+-- if the numbers of a call are those of the ranking
 pub demand-at : (rate : HitRate) (time widest : ℕ) (m : Message) (ms : List Message) (long first second own front : ℕ) → first ≡ long → second ≡ long → front ≡ time → own ≡ arrivals m first * m.longest →
     demand (most_hits rate) (front + own) widest ms second ≡ demand (most_hits rate) time widest (m ∷ ms) long
 demand-at rate time widest m ms long first second own front e f g h =

@@ -50,7 +50,7 @@ module _ (rate : HitRate) (limit : ℕ) (r : Ranking) (block wide : ℕ) (is_blo
         ],
       )
 
-  -- where the first frame has no delay up to the limit, there is no bound
+  -- if the first frame has no delay up to the limit, there is no bound
   pub none-first : 0 < r.message.period → ((n : ℕ) → Enough 0 n → limit < n) → (bound : ℕ) → IsBound (most_hits rate) limit r bound → ⊥
   none-first some past bound b =
       let h = b.some in

@@ -13,7 +13,7 @@ pub mod Growth
 pub mod Bounds
 pub mod Carried
 pub mod Places
--- and which frame is as late, and why
+-- and which frame has the bound as its response time, and why
 pub mod LatestFrames
 -- a network that is asked for less meets the same deadlines
 pub mod Margins

@@ -34,7 +34,7 @@ module _ (messages : List Message) (x : Release) (after : List Release) where
         | inr behind ↦ ordered-behind before is.ordered z behind m there of_x of_z
       ]
 
--- where an attempt is hit, and how long it keeps the bus then
+-- the level at which an attempt is hit, and how long it keeps the bus then
 pub record IsHitIn (f : Parts) (offset : ℕ) : Type 0 where
   pub behind : 1 ≤ offset
   pub before_last : offset + 2 ≤ length (wire f)

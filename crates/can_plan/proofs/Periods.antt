@@ -28,7 +28,7 @@ periodic-take (suc count) [] each n m at = each n m at
 periodic-take (suc count) (x ∷ ms) each zero m at = each zero m at
 periodic-take (suc count) (x ∷ ms) each (suc n) m at = periodic-take count ms (λ k l there. each (suc k) l there) n m at
 
--- where a message has none, there is one
+-- if a message has none, there is one
 pub some-message : (ms : List Message) → all_have ms ≡ false → 0 < length ms
 some-message [] e = absurd (let h : true ≡ false = e in cc)
 some-message (x ∷ ms) e = omega arith

@@ -5,8 +5,8 @@ use Rattle.can_plan.specs.Analysis.{Ranking, delayed}
 use Rattle.can_plan.specs.Latest.{end_of, sum_of_parts}
 use Rattle.can_plan.specs.Margins.{shorter}
 
--- ---- The third message of examples/networks/davis.toml: 122 bit times in each 427, behind one of 122 in each 303 and
--- one of 121 in each 427. Nothing blocks it, and nothing is hit.
+-- ---- The third message of examples/networks/davis.toml: 122 bit times in every 427, below one of 122 in every 303 and one of 121 in
+-- every 427. Nothing blocks it, and there are no hits.
 
 abbrev message-of : ℕ → ℕ → Message
 message-of longest period = record { field = []; longest = longest; period = period; jitter = 0 }
@@ -28,7 +28,7 @@ second-delay = refl
 second-no-sooner : delayed (λ long. 0) third 1 729 ≡ 730
 second-no-sooner = refl
 
--- it is released 427 behind the first, so it ends 730 + 119 - 427 behind its release
+-- it is released 427 after the first, so it ends 730 + 119 - 427 after its release
 second-end : end_of third.message 1 730 ≡ 422
 second-end = refl
 
@@ -45,8 +45,8 @@ shorter-most = refl
 abbrev sooner : Ranking
 sooner = record { higher = map (shorter 2) third.higher; message = shorter 2 third.message; lower = [] }
 
--- the second frame of the third message waits as long, and is released 418 behind the first: it ends 431 behind its
--- release, and is late for 427
+-- the second frame of the third message waits equally long, and is released 418 after the first: it ends 431 after its release, and
+-- misses a deadline of 427
 sooner-delay : delayed (λ long. 0) sooner 1 730 ≡ 730
 sooner-delay = refl
 

@@ -1,4 +1,4 @@
--- A course, told of releases: which of them each attempt sends.
+-- A course in terms of releases: which of them each attempt sends.
 use Rattle.std.proofs.Common.{◌≡◌, ◌≢◌, ℕ, zero, suc, ◌+◌, ◌<◌, ◌≤◌, ◌⊎◌, Some, None, List, [], ◌∷◌, ◌++◌, length, map, refl, sym, ◌∙◌, ap, subst, inl, inr, arith}
 use Rattle.std.proofs.lemmas.Bool.{cond-true, cond-false, cases_Bool}
 use Rattle.can_frame.specs.Parts.{Parts, IsFrame}

@@ -72,7 +72,7 @@ module _ (d : ℕ) where
       by-hit time None now after same = same
       by-hit time (Some offset) now after same = ap (λ l. ((d + time) + offset) ∷ l) same ∙ ap (λ t. t ∷ map (λ k. d + k) now) (let e : (d + time) + offset ≡ d + (time + offset) = omega arith in e)
 
-  -- a hit in the stretch lies in one from so many bit times before
+  -- a hit in the stretch is in one that begins this many bit times earlier
   sooner : (from long t : ℕ) → cond (nat_le from (d + t) && nat_lt (d + t) (from + long)) 1 0 ≤ cond (nat_le (from - d) t && nat_lt t ((from - d) + long)) 1 0
   sooner from long t = grind (arith, nat_tests)
 

@@ -19,7 +19,7 @@ pub record Fits (messages : List Message) (x : Release) : Type 0 where
   pub known : (m : Message) × IsIn messages m × IsOf m x
   pub within : (m : Message) → IsIn messages m → IsOf m x → IsWithin m x
 
--- of one message, the second is released a period behind the first
+-- of one message, the second is released a period after the first
 abbrev pub Apart : List Message → Release → Release → Type 0
 Apart messages x y = (m : Message) → IsIn messages m → IsOf m x → IsOf m y → x.released + m.period ≤ y.released
 
@@ -41,7 +41,7 @@ pub record IsNextOf (free start : ℕ) (x : Release) (before after : List Releas
       Before (arbitration_field x.frame) (arbitration_field z.frame) ⊎ (arbitration_field x.frame ≡ arbitration_field z.frame)
   pub foremost : (z : Release) → IsIn before z → arbitration_field z.frame ≢ arbitration_field x.frame
 
--- ---- the message, those before it, and those behind it
+-- ---- the message, those with higher and those with lower priority
 
 abbrev pub upper : Ranking → List Message
 upper ranking = ranking.message ∷ ranking.higher
@@ -57,7 +57,7 @@ pub record IsRanked (messages : List Message) (ranking : Ranking) : Type 0 where
 abbrev pub IsUpper : Ranking → Release → Type 0
 IsUpper ranking x = (m : Message) × IsIn (upper ranking) m × IsOf m x
 
--- what was served was offered, and the hits fell, so soon behind the beginning
+-- what was served was offered, and the hits fell, within this time after the beginning
 pub record IsSoon (ranking : Ranking) (from long : ℕ) (served : List Release) (past : List ℕ) : Type 0 where
   pub offers : (y : Release) → IsIn served y → y.offered < from + long
   pub hits : (t : ℕ) → IsIn past t → t + 5 < from + long + widest ranking
@@ -170,7 +170,7 @@ module _ (messages : List Message) (ranking : Ranking) (is : IsRanked messages r
     begin : (start : ℕ) → 0 < long → ((z : Release) → IsIn left z → IsUpper ranking z → start ≤ z.offered) → Ready messages ranking most long start left coming
     begin start some later = record { window = fresh start later; soon = omega arith; delay = λ q d e f. omega arith }
 
-    -- where the long time is over, all that was offered before has been served
+    -- when the long time is over, all that was offered before has been served
     served-all : busied most ranking long ≤ long → w.from + long ≤ free → IsLeft messages left → (z : Release) → IsIn left z → IsUpper ranking z → w.from + long ≤ z.offered
     served-all enough over lefts z there of =
         elim (cases_lt z.offered (w.from + long)) [

@@ -1,4 +1,4 @@
--- To believe: what public calls and laws promise is said in these words
+-- To believe: public calls and laws make their claims in these definitions
 pub mod Messages
 pub mod FramesOf
 pub mod Ends

@@ -1,5 +1,4 @@
--- What a bound promises of a bus: of the levels that a call records, and of the log of each port. (docs/PLANNING.md,
--- "What a bound says")
+-- What a bound promises of a bus: of the levels that a call records, and of the log of each port. (docs/PLANNING.md, "What a bound says")
 use Rattle.std.specs.Prelude.{ℕ, ◌≡◌, ◌+◌, ◌≤◌, List, drop, filter, length, map, Some, slice_get, take}
 use Rattle.can_frame.specs.declared.level.Level.{Level}
 use Rattle.can_frame.specs.Parts.{Parts, IsFrame}
@@ -18,19 +17,18 @@ use Rattle.can_bus.specs.Timed.{frames_of, all_offers, own_offers}
 use Rattle.can_plan.specs.declared.message.Message.{Message}
 use Rattle.can_plan.specs.Messages.{AreHitAtMost, KeepTo, Release, offer_of}
 
--- A call on a network that keeps to its messages, and to how many hits there are at most: its frames are these
--- releases, of which those that wait as the call begins are offered at time 0.
+-- A call on a network that keeps to its messages and to the error model: its frames are these releases. Those that wait at the start of
+-- the call are offered at time 0.
 pub record IsPlannedCall (most : ℕ → ℕ) (messages : List Message) (releases : List Release) (offers : List Offer) (hits : List Hit) (bus : BusState) (course : List Transmission) : Type 0 where
   pub call : IsNetworkCall offers hits bus course
   pub same : map offer_of releases ≡ all_offers offers bus.ports
   pub keep : KeepTo messages releases
   pub few : AreHitAtMost most course
-  -- as it is with all ports and all offers of the code
+  -- this holds for all ports and all offers of the code
   pub ports : (n : ℕ) (p : PortState) → slice_get bus.ports n ≡ Some p → IsPort p
   pub frames : (n : ℕ) (offer : Offer) → slice_get offers n ≡ Some offer → IsFrame offer.frame
 
--- The wire of a release stands among these levels, one for each bit time: from a start on that is not before its offer,
--- and whole at most so many bit times behind its release.
+-- The levels contain the wire of a release. It starts at its offer or later, and ends at most the bound after its release.
 pub record StandsWithin (bound : ℕ) (r : Release) (level : ℕ → Level) : Type 0 where
   pub start : ℕ
   pub offered : r.offered ≤ start
@@ -41,9 +39,8 @@ pub record StandsWithin (bound : ℕ) (r : Release) (level : ℕ → Level) : Ty
 abbrev pub entries_of : Parts → List Entry → List Entry
 entries_of f log = filter (λ entry. same_field f entry.frame) log
 
--- Behind what it had before, the log of a port names the frame of the release at this place: of the entries of its
--- field it is the one that has as many before it as the release has. It is marked as sent where the port had it to
--- send.
+-- After its earlier entries, the log of a port has the frame of the release at this place: if n releases of its arbitration field come
+-- before it, it is entry n of this field, counted from 0. It is marked as sent if the port had it to send.
 abbrev pub LogNames : List Offer → List Release → ℕ → Release → ℕ → PortState → PortState → Type 0
 LogNames offers releases place r node p q =
     slice_get (entries_of r.frame (drop (length p.log) q.log)) (length (of_field r.frame (take place (map offer_of releases))))

@@ -1,26 +1,26 @@
-//! For how long a rate of hits is borne.
+//! For how long an error model is tolerated.
 ghost use Rattle.std.specs.Prelude.{ℕ, ◌≤◌, ◌↔◌};
 ghost use Rattle.can_plan.specs.Borne.{Allows};
 ghost use Rattle.can_plan.specs.Messages.{most_hits};
 
 use crate::message::HitRate;
 
-/// How many hits at most leave every port error active, wherever they fall.
+/// With at most this many hits every port stays error active, wherever they fall.
 const MOST_BORNE: u16 = 15;
 
 /// For how long every port is sure to stay error active.
 #[derive(Clone, Copy, Debug, PartialEq, Eq)]
 pub enum Borne {
-    /// For ever.
+    /// Forever.
     Ever,
-    /// For so many bit times.
+    /// For this many bit times.
     For(u64),
-    /// For none: a single burst may be too many.
+    /// Not at all: a single burst may be too many hits.
     Never,
 }
 
-/// For how long a rate allows no more than fifteen hits. So many leave each port that has counted no error before error
-/// active, wherever they fall.
+/// For how long the error model allows at most fifteen hits. With these, each port whose counters were 0 before stays
+/// error active, wherever they fall.
 pub fn borne_for(rate: &HitRate) -> Borne
     ensures { (long : ℕ) → Allows result long ↔ (most_hits rate.now long ≤ 15) }
 {

@@ -1,17 +1,17 @@
-//! What keeps the bus in a stretch of bit times.
+//! The demand on the bus in a number of bit times.
 ghost use Rattle.std.specs.Prelude.{◌≡◌, ◌+◌, ◌-◌, ◌*◌, ◌^◌, ◌<◌, ◌≤◌, ◌∷◌, MatchOption};
 ghost use Rattle.can_plan.specs.Analysis.{arrivals as arrivals_of, demand as demand_of, greatest, hits_cost as hits_cost_of, load as load_of};
 ghost use Rattle.can_plan.specs.Messages.{ArePeriodic, most_hits as most_hits_of};
 
 use crate::message::{HitRate, Message};
 
-/// How many bit times before the end of the frame's time on the bus a hit falls at the latest.
+/// The latest hit falls this many bit times before the end of the time for which the frame keeps the bus.
 const LEFT_BEHIND_HIT: u64 = 5;
 
-/// How many bit times more than its frame's time on the bus an attempt that is hit takes at most.
+/// An attempt that is hit keeps the bus at most this many bit times longer than its frame.
 const HIT_COST: u64 = 13;
 
-/// How many frames of a message are offered at most in a stretch of so many bit times.
+/// At most how many frames of a message are offered in `long` bit times.
 pub fn arrivals(message: &Message, long: u64) -> u64
     requires periodic { 0 < message.now.period }
     requires short { long ≤ 2 ^ 32 }
@@ -23,7 +23,7 @@ pub fn arrivals(message: &Message, long: u64) -> u64
     (long + u64::from(message.jitter) + period - 1) / period
 }
 
-/// How long the frames of a message that are offered in such a stretch keep the bus.
+/// How long the frames of a message that are offered in `long` bit times keep the bus.
 pub fn own_load(message: &Message, long: u64) -> u64
     requires periodic { 0 < message.now.period }
     requires short { long ≤ 2 ^ 32 }
@@ -33,8 +33,8 @@ pub fn own_load(message: &Message, long: u64) -> u64
     arrivals(message, long) * u64::from(message.longest)
 }
 
-/// How long the frames of these messages keep the bus that are offered in such a stretch; none where it is more than
-/// the limit.
+/// How long the frames of these messages that are offered in `long` bit times keep the bus; `None` if this is more
+/// than the limit.
 fn load(messages: &[Message], long: u64, limit: u32) -> Option<u64>
     requires periodic { ArePeriodic messages.now }
     requires short { long ≤ 2 ^ 32 }
@@ -50,7 +50,7 @@ fn load(messages: &[Message], long: u64, limit: u32) -> Option<u64>
     Some(total)
 }
 
-/// The longest time on the bus of these messages, or `first` where that is longer.
+/// The greatest `longest` of these messages, or `first` if that is greater.
 pub(crate) fn widest(first: u16, messages: &[Message]) -> u16
     ensures { (message : Message) → message.longest ≡ first → result ≡ greatest (λ m. m.longest) (message ∷ messages.now) }
 {
@@ -61,7 +61,7 @@ pub(crate) fn widest(first: u16, messages: &[Message]) -> u16
     wide
 }
 
-/// How long a frame of these messages that started one bit time before goes on at most.
+/// For how many bit times a frame of these messages that started one bit time earlier still keeps the bus, at most.
 pub fn blocking(messages: &[Message]) -> u16
     ensures { result ≡ greatest (λ m. m.longest - 1) messages.now }
 {
@@ -72,7 +72,7 @@ pub fn blocking(messages: &[Message]) -> u16
     long
 }
 
-/// How many hits there are at most in so many bit times.
+/// At most how many hits fall in `long` bit times.
 fn most_hits(rate: &HitRate, long: u64) -> u64
     requires short { long ≤ 2 ^ 33 }
     ensures value { result ≡ most_hits_of rate.now long }
@@ -86,7 +86,7 @@ fn most_hits(rate: &HitRate, long: u64) -> u64
     }
 }
 
-/// How many hits there are at most in attempts that begin within so many bit times.
+/// At most how many hits fall in attempts that begin within `long` bit times.
 pub(crate) fn hits(rate: &HitRate, widest: u16, long: u64) -> u64
     requires short { long ≤ 2 ^ 32 }
     ensures value { result ≡ most_hits_of rate.now (long + widest - 5) }
@@ -98,7 +98,7 @@ pub(crate) fn hits(rate: &HitRate, widest: u16, long: u64) -> u64
     )
 }
 
-/// What they cost.
+/// How many bit times these hits take.
 pub(crate) fn hits_cost(rate: &HitRate, widest: u16, long: u64) -> u64
     requires short { long ≤ 2 ^ 32 }
     ensures value { result ≡ hits_cost_of (most_hits_of rate.now) widest long }
@@ -107,8 +107,8 @@ pub(crate) fn hits_cost(rate: &HitRate, widest: u16, long: u64) -> u64
     hits(rate, widest, long) * (u64::from(widest) + HIT_COST)
 }
 
-/// What keeps the bus in attempts that begin within so many bit times: some time, these messages, and hits; none
-/// where it is more than the limit.
+/// The demand of attempts that begin within `long` bit times: `time`, these messages, and hits; `None` if it is more
+/// than the limit.
 pub(crate) fn demand(
     time: u64,
     widest: u16,

@@ -1,15 +1,16 @@
-//! How long frames keep the bus at most.
+//! How long frames keep the bus.
 ghost use Rattle.std.specs.Prelude.{◌<◌};
 ghost use Rattle.can_plan.specs.FramesOf.{IsLongestBusy};
 
 use can_frame::Id;
 use can_longest::LongestWires;
 
-/// How many bit times of intermission there are behind a frame: in its longest time on the bus, and not in its wire.
+/// The number of bit times of intermission after a frame. The longest time on the bus includes them, the wire does
+/// not.
 pub(crate) const INTERMISSION: u16 = 3;
 
-/// How long a frame with this identifier, of this kind and with this DLC keeps the bus at most: its wire, and three bit
-/// times of intermission. None keeps it longer, and one does so long.
+/// The longest time for which a frame with this identifier, kind and DLC keeps the bus: its wire, and three bit times
+/// of intermission. No such frame keeps it longer, and one keeps it this long.
 pub fn longest_busy(wires: &LongestWires, id: Id, remote: bool, dlc: u8) -> u16
     requires { dlc < 16 }
     ensures longest { IsLongestBusy id remote dlc result }

@@ -1,4 +1,4 @@
-//! How much is left of a network until a message is late.
+//! How much is left of a network until a message may miss its deadline.
 ghost use Rattle.std.specs.Prelude.{◌≡◌, ◌-◌, ◌<◌, ◌≤◌, ℕ, IfOk, IsFalse, IsNone, MatchOption, length, map, nat_lt};
 ghost use Rattle.std.specs.List.{list_all};
 ghost use Rattle.can_plan.specs.Margins.{IsFirstLate, IsFirstUnder, IsMargin, MeetDeadlines, MeetUnder, MeetsDeadline, MeetsUnder, misses_deadline as misses_deadline_of, most_strain as most_strain_of, shorter as shorter_of};
@@ -8,30 +8,31 @@ use crate::message::{HitRate, Message};
 use crate::response::{are_periodic, response_after};
 use std::alloc::{AllocError, Global};
 
-/// The most per cent by which periods may be asked to be shorter.
+/// Periods can be shortened by at most this many per cent.
 const MOST_PER_CENT: u16 = 99;
 
-/// What a network may be asked to bear beyond what its messages and its rate of hits say.
+/// A change to a network: shorter periods, or more hits.
 #[derive(Clone, Copy, Debug, PartialEq, Eq)]
 pub enum Strain {
-    /// All periods shorter by so many per cent, 99 at most: rounded down to whole bit times, and one at least.
+    /// All periods are shorter by a number of per cent, at most 99. They are rounded down to whole bit times, at
+    /// least one.
     ShorterPeriods,
-    /// So many hits more at once, with which the burst is 65,535 at most.
+    /// The burst is greater by a number of hits, and at most 65,535 then.
     MoreHits,
 }
 
-/// How much of it a network bears.
+/// How much of a change a network can take.
 #[derive(Clone, Copy, Debug)]
 pub struct Margin {
-    /// With so much, and with less, each message meets its deadline.
+    /// With this much, and with less, each message meets its deadline.
     pub most: u16,
-    /// The place of the first message that may be late with one more; none where no more may be asked.
+    /// The place of the first message that may miss its deadline with one more; `None` if no more is possible.
     pub late: Option<usize>,
 }
 
-/// The place of the first message for which the analysis, with numbers up to the limit, doesn't give its deadline as a
-/// bound; none where there is no such message. Each deadline stands at the place of its message. Where a period is 0 none
-/// has a bound, so it is the first, if that has a deadline.
+/// The place of the first message that may miss its deadline; `None` if there is none. It may if the analysis, with
+/// numbers up to the limit, does not give its deadline as a bound. Each deadline is at the place of its message. If a
+/// period is 0, no message has a bound, so the first is returned, if it has a deadline.
 pub fn first_late(
     messages: &[Message],
     deadlines: &[u32],
@@ -44,7 +45,7 @@ pub fn first_late(
     first_late_from(0, messages, deadlines, rate, limit)
 }
 
-/// The same, where each message before this place meets its deadline.
+/// The first message from this place on that may miss its deadline; the ones before meet theirs.
 fn first_late_from(
     from: usize,
     messages: &[Message],
@@ -77,12 +78,12 @@ fn misses_deadline(deadline: u64, bound: Option<u64>) -> bool
     }
 }
 
-/// How much of a strain a network bears until the analysis, with numbers up to the limit, doesn't give each message's
-/// deadline, at its place, as a bound; none where it doesn't as the network is, and where a period is 0. It takes memory for
-/// the messages.
+/// How much of a change a network can take while the analysis, with numbers up to the limit, gives each message's
+/// deadline as a bound. Each deadline is at the place of its message. It returns `None` if the unchanged network does
+/// not meet them, and if a period is 0. It allocates memory for the messages.
 ///
-/// It is found by halves, up to seventeen networks. Before the message that is late with so much none is with less, so each
-/// is looked at from there on.
+/// It is a binary search over at most seventeen networks. If a message is the first that may miss its deadline with
+/// some change, none before it may with less, so the analysis of smaller changes starts at this message.
 pub fn margin_of(
     alloc: Global,
     strain: Strain,
@@ -132,7 +133,7 @@ fn greatest_strain(
     Ok(margin)
 }
 
-/// How much more may be asked at most.
+/// The greatest change that is possible.
 fn most_strain(strain: Strain, rate: &HitRate) -> u16
     ensures { result ≡ most_strain_of strain rate.now }
 {
@@ -142,7 +143,7 @@ fn most_strain(strain: Strain, rate: &HitRate) -> u16
     }
 }
 
-/// The first message that may be late with so much more, where none before this place is.
+/// The first message that may miss its deadline with this change; none before place `from` does.
 fn first_under(
     alloc: Global,
     strain: Strain,
@@ -173,7 +174,7 @@ fn first_under(
     }
 }
 
-/// These messages, with periods that are shorter by so many per cent.
+/// These messages, with periods shorter by this many per cent.
 fn all_shorter(
     alloc: Global,
     percent: u16,
@@ -189,7 +190,7 @@ fn all_shorter(
     Ok(all)
 }
 
-/// A message with a period that is shorter by so many per cent.
+/// This message, with a period shorter by this many per cent.
 fn shorter(percent: u16, message: &Message) -> Message
     requires { percent ≤ 99 }
     ensures { result ≡ shorter_of percent message.now }

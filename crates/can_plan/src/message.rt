@@ -1,27 +1,27 @@
-//! Messages, and how often the bus is hit.
+//! Messages, and the error model.
 
 use can_frame::Key;
 
-/// A message of a network: frames of one arbitration field that are released again and again. All times are
-/// whole bit times.
+/// A message of a network: frames of one arbitration field that are released again and again. All times are whole bit
+/// times.
 #[derive(Clone, Copy, Debug)]
 pub struct Message {
     /// The arbitration field of its frames.
     pub field: Key,
-    /// How long one of its frames keeps the bus at most: its wire, and three bit times of intermission.
+    /// The longest time for which one of its frames keeps the bus: its wire, and three bit times of intermission.
     pub longest: u16,
-    /// How far apart two of its releases are at least.
+    /// The shortest time between two of its releases.
     pub period: u32,
-    /// How long behind its release a frame is offered to its port at most.
+    /// The longest time from the release of a frame until it is offered to its port.
     pub jitter: u32,
 }
 
-/// How often the bus is hit at most: in any stretch of bit times as often as the burst says, and once more for each
-/// spacing that fits into it. Where the spacing is 0 there are no more hits than the burst in all.
+/// The error model: any number of consecutive bit times has at most `burst` hits, and one more for each `spacing`
+/// that fits into it. If `spacing` is 0, there are at most `burst` hits in all.
 #[derive(Clone, Copy, Debug)]
 pub struct HitRate {
-    /// How many hits may come at once.
+    /// The number of hits that may come at once.
     pub burst: u16,
-    /// After how many bit times one more may come.
+    /// The number of bit times after which one more may come.
     pub spacing: u32,
 }

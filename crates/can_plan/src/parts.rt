@@ -1,4 +1,4 @@
-//! What makes a bound.
+//! The parts of a bound.
 ghost use Rattle.std.specs.Prelude.{◌≡◌, ◌*◌, ◌+◌, ◌^◌, ◌<◌, ◌≤◌, ℕ, IfSome, IsFalse, IsNone, MatchOption, Some, length, nat_lt, slice_get};
 ghost use Rattle.std.specs.List.{list_all};
 ghost use Rattle.can_plan.specs.declared.message.Message.{Message as Sent};
@@ -12,8 +12,8 @@ use crate::latest::Latest;
 use crate::message::{HitRate, Message};
 use crate::response::{are_periodic, bound_from, delay, end};
 
-/// The first frame of a busy period whose wire ends `bound` bit times after its release, and its delay. The first frame has
-/// no delay below `first`.
+/// The number and the delay of the first frame of a busy period whose wire ends `bound` bit times after its release.
+/// The first frame has no delay below `first`.
 fn first_to_end(
     bound: u64,
     first: u64,
@@ -45,7 +45,7 @@ fn first_to_end(
     None
 }
 
-/// The latest frame of this message, if `bound` is its least bound. The messages before it in arbitration are `higher`, the
+/// The latest frame of this message, if `bound` is its least bound. Messages with higher priority are `higher`, the
 /// others `lower`.
 fn ranked_latest(
     bound: u64,
@@ -85,18 +85,19 @@ fn ranked_latest(
     })
 }
 
-/// The latest frame of the message at this place: of the frames in a busy period the first whose wire ends `bound` bit times
-/// after its release. There is one exactly if `bound` is the message's least bound, which [`crate::response_bound`]
-/// returns. It is none for any other number, if there is no such place, and if a period is 0.
+/// The latest frame of the message at this place, if `bound` is its least bound, which [`crate::response_bound`]
+/// returns. It is the first frame of a busy period whose wire ends `bound` bit times after its release. For any other
+/// number it returns `None`, and if there is no such place, or a period is 0.
 ///
 /// The bound is the sum of these parts, less `later`:
 /// - the jitter and the blocking
 /// - `earlier`
-/// - what [`crate::own_load`] returns for each message before it in arbitration, for one bit time more than the delay
+/// - what [`crate::own_load`] returns for each higher-priority message, for one bit time more than the delay
 /// - `hits_cost`
 /// - its wire, which is `longest` less three bit times
 ///
-/// Its work is that of [`crate::response_bound`], and in proportion to the frames of this message before the latest one.
+/// Its work is that of [`crate::response_bound`], and proportional to the frames of this message before the latest
+/// one.
 pub fn latest_frame(
     bound: u64,
     messages: &[Message],

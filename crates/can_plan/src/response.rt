@@ -1,4 +1,4 @@
-//! How long the frames of a message may take from their release to the end of their wire.
+//! The response times of the frames of a message: from release to the end of the wire.
 ghost use Rattle.std.specs.Prelude.{◌≡◌, ◌+◌, ◌-◌, ◌*◌, ◌^◌, ◌<◌, ◌≤◌, ◌∷◌, ℕ, IfSome, IsFalse, IsNone, MatchOption, Some, length, max, min, nat_lt, slice_get};
 ghost use Rattle.std.specs.List.{list_all};
 ghost use Rattle.can_plan.specs.declared.message.Message.{Message as Sent};
@@ -13,8 +13,7 @@ use crate::demand::{arrivals, blocking, demand, own_load, widest};
 use crate::longest::INTERMISSION;
 use crate::message::{HitRate, Message};
 
-/// The least delay that is enough for what keeps the bus meanwhile; none where it is above the limit. None that is less
-/// than `from` is enough.
+/// The least delay that covers the demand in it; `None` if it is above the limit. No delay below `from` does.
 pub(crate) fn delay(
     from: u64,
     time: u64,
@@ -43,7 +42,7 @@ pub(crate) fn delay(
 }
 
 /// The busy period: the least number of bit times, above 0, within which the bus has been free of a message and of
-/// those that go before it; none where it is above the limit. None is shorter than `from`.
+/// those with higher priority; `None` if it is above the limit. None is shorter than `from`.
 fn busy(
     from: u64,
     blocking: u16,
@@ -80,7 +79,7 @@ fn busy(
     None
 }
 
-/// How long behind its release the wire of the frame of number q, counted from 0, ends, where this is its delay.
+/// How long after its release the wire of frame q of the busy period, counted from 0, ends with this delay.
 pub(crate) fn end(q: u64, delay: u64, message: &Message) -> u64
     requires short { delay < 2 ^ 32 }
     requires small { q * message.now.period ≤ 2 ^ 34 }
@@ -91,12 +90,13 @@ pub(crate) fn end(q: u64, delay: u64, message: &Message) -> u64
     until.saturating_sub(u64::from(INTERMISSION) + q * u64::from(message.period))
 }
 
-/// The least time behind their releases within which the wires of all frames of a busy period end; none where the delay
-/// of one is above the limit. The first has no less delay than `from`, and each other no less than the one before it has,
-/// and its time on the bus.
+/// The least bound on the response times of all frames of a busy period; `None` if the delay of one is above the
+/// limit. The first frame has a delay of at least `from`. Each other has at least the delay of the one before it and
+/// its time on the bus.
 ///
-/// It goes from the last frame to the second. Behind the begin of a frame the busy period has its time on the bus and that
-/// of those behind it, so one that would be early enough if it came as late as they allow is passed over.
+/// It goes from the last frame to the second. After the start of a frame the busy period lasts for its time on the
+/// bus and that of the frames after it. A frame that would meet the bound even with the latest start that this allows
+/// is skipped.
 fn latest_end(
     from: u64,
     long: u32,
@@ -132,8 +132,9 @@ fn latest_end(
     Some(bound)
 }
 
-/// The least bound of a message; none if the analysis gives no bound. Given are how long lower messages block it, the
-/// longest time on the bus of it and the higher ones, and a number that no delay of its first frame is below.
+/// The least bound of a message; `None` if the analysis gives none. `blocking` is the time for which lower-priority
+/// messages block it, and `widest` the longest time on the bus of it and the higher-priority ones. No delay of its
+/// first frame is below `first`.
 pub(crate) fn bound_from(
     first: u32,
     blocking: u16,
@@ -155,8 +156,8 @@ pub(crate) fn bound_from(
     latest_end(first, long, blocking, widest, message, higher, rate, limit)
 }
 
-/// Below which number there is no busy period of a message whose first frame has no less delay than `first`: the frame has
-/// its time on the bus within it.
+/// No busy period of a message is shorter than this, if its first frame has a delay of at least `first`: the frame is
+/// sent within it.
 fn busy_after(first: u64, longest: u16) -> u64
     requires { first < 2 ^ 32 }
     ensures { (n : ℕ) → (0 < longest → first + longest ≤ n) → result ≤ n }
@@ -171,13 +172,14 @@ fn busy_after(first: u64, longest: u16) -> u64
 /// What the analysis gives for a message.
 #[derive(Clone, Copy, Debug)]
 pub struct Response {
-    /// The least bound on the time from the release of a frame to the end of its wire, which [`response_bound`] returns.
+    /// The least bound on the time from the release of a frame to the end of its wire, which [`response_bound`]
+    /// returns.
     pub bound: Option<u64>,
-    /// The length of the busy period in bit times; none if it is above the limit.
+    /// The length of the busy period in bit times; `None` if it is above the limit.
     pub busy: Option<u32>,
 }
 
-/// What the analysis gives for this message. The messages before it in arbitration are `higher`, the others `lower`. If this
+/// What the analysis gives for this message. Messages with higher priority are `higher`, the others `lower`. If this
 /// message or a lower one blocks the higher ones, none of their busy periods is shorter than `before`.
 fn ranked_response(
     before: u64,
@@ -211,9 +213,9 @@ fn ranked_response(
     }
 }
 
-/// Below which number there is no busy period of a message, where those before it have none below `before` with this one
-/// or one behind it that blocks them. In as long a time its own frames keep the bus too, and it no longer blocks. Where
-/// nothing blocked, a busy period of one bit time may be that of no frame.
+/// No busy period of a message is shorter than this, if those with higher priority have none shorter than `before`
+/// when this message or a lower one blocks them. In that time its own frames keep the bus too, and it no longer
+/// blocks. If nothing blocked, a busy period of one bit time may be that of no frame.
 fn first_busy(before: u64, blocking: u16, message: &Message, limit: u32) -> u64
     requires { 0 < message.now.period }
     ensures { let blocked = max (message.now.longest - 1) blocking in
@@ -229,9 +231,9 @@ fn first_busy(before: u64, blocking: u16, message: &Message, limit: u32) -> u64
         .saturating_sub(u64::from(blocked - blocking))
 }
 
-/// Below which number no delay of the first frame of a message is enough, where those before it have no busy period below
-/// `before` with this one or one behind it that blocks them. Where this one would block longer than the others, nothing is
-/// known.
+/// No delay of the first frame of a message is below this, if those with higher priority have no busy period shorter
+/// than `before` when this message or a lower one blocks them. If this message would block longer than the others,
+/// nothing is known.
 fn first_delay(before: u64, blocking: u16, longest: u16) -> u64
     ensures { (n : ℕ) → (0 < blocking → longest ≤ blocking + 1 → before ≤ n) → result ≤ n }
 {
@@ -242,22 +244,22 @@ fn first_delay(before: u64, blocking: u16, longest: u16) -> u64
     }
 }
 
-/// Whether each message has a period.
+/// Whether each message has a period above 0.
 pub(crate) fn are_periodic(messages: &[Message]) -> bool
     ensures { result ≡ list_all (λ m. nat_lt 0 m.period) messages.now }
 {
     messages.iter().all(|message| message.period > 0)
 }
 
-/// The bound of the message at this place: at most so many bit times after its release the wire of each of its frames ends.
-/// It is the least bound that the analysis gives with numbers up to the limit. It is none if the analysis gives none, if
-/// there is no such place, and if a period is 0.
+/// The least bound that the analysis gives for the message at this place, with numbers up to the limit. The wire of
+/// each of its frames ends at most this many bit times after its release. It returns `None` if the analysis gives
+/// none, if there is no such place, or if a period is 0.
 ///
-/// The bound holds on every course of the bus if
-/// - the messages are in the order of arbitration, no two of one field, and none with a `longest` of 0
-/// - the releases keep to the messages, and the hits to the rate
+/// The bound holds on every course if
+/// - the messages are in priority order, no two with the same field, and none with a `longest` of 0
+/// - the releases keep to the messages, and the hits to the error model
 ///
-/// Its work is in proportion to the messages, to the frames of this one in a busy period, and to the steps of the sums
+/// Its work is proportional to the messages, to the frames of this one in a busy period, and to the steps of the sums
 /// that grow up to the limit. For all messages of a network [`crate::Responses`] takes fewer steps.
 pub fn response_bound(messages: &[Message], place: usize, rate: &HitRate, limit: u32) -> Option<u64>
     ensures least { (message : Sent) → slice_get messages.now place ≡ Some message → ArePeriodic messages.now → let ranking = ranking_at messages.now place message in
@@ -271,8 +273,8 @@ pub fn response_bound(messages: &[Message], place: usize, rate: &HitRate, limit:
     response.bound
 }
 
-/// What the analysis gives for the message at this place, and a number for the next call: no busy period of this message is
-/// shorter. `before` is that number for the message before it, or 0.
+/// What the analysis gives for the message at this place, and a number for the next call: no busy period of this
+/// message is shorter. `before` is that number for the message before it, or 0.
 pub(crate) fn response_after(
     before: u64,
     messages: &[Message],
@@ -309,7 +311,7 @@ pub(crate) fn response_after(
     (response, least_busy(response.busy, limit))
 }
 
-/// No busy period is shorter than this, if it is `busy` with numbers up to the limit.
+/// No busy period is shorter than this, if `busy` is what the analysis gives with numbers up to the limit.
 fn least_busy(busy: Option<u32>, limit: u32) -> u64
     ensures { MatchOption busy (result ≡ limit + 1) (λ long. result ≡ long) }
 {

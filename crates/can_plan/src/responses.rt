@@ -10,7 +10,7 @@ ghost use Rattle.can_plan.specs.Messages.{ArePeriodic, IsMessageSet, most_hits};
 use crate::message::{HitRate, Message};
 use crate::response::{Response, response_after};
 
-/// What the analysis gives for the messages of a network, one after another. Each answer starts from what was found of the
+/// What the analysis gives for the messages of a network, one after another. Each result starts from that of the
 /// message before it, so all of them take fewer steps than [`crate::response_bound`] at each place.
 #[derive(Drop)]
 pub struct Responses<'a> {
@@ -25,7 +25,7 @@ pub struct Responses<'a> {
 }
 
 impl<'a> Responses<'a> {
-    /// For these messages, from the one at this place on, with numbers up to the limit.
+    /// The results for these messages, from the one at this place on, with numbers up to the limit.
     pub fn new(messages: &'a [Message], place: usize, rate: &HitRate, limit: u32) -> Responses<'a>
         ensures messages { result.messages.now ≡ messages.now }
         ensures place { result.place ≡ place }
@@ -41,8 +41,8 @@ impl<'a> Responses<'a> {
         }
     }
 
-    /// What the analysis gives for the next message: the bound that [`crate::response_bound`] returns, and the length of its
-    /// busy period. Both are none if there is no further message, and if a period is 0.
+    /// What the analysis gives for the next message: the bound that [`crate::response_bound`] returns, and the length
+    /// of its busy period. Both are `None` if there is no further message, or if a period is 0.
     pub fn next_response(&mut self) -> Response
         ensures least { (message : Sent) → slice_get self.old.messages.now self.old.place ≡ Some message → ArePeriodic self.old.messages.now → let ranking = ranking_at self.old.messages.now self.old.place message in
             MatchOption result.bound ((other : ℕ) → IsBound (most_hits self.old.rate) self.old.limit ranking other → ⊥) (λ b. IsLeastBound (most_hits self.old.rate) self.old.limit ranking b) }

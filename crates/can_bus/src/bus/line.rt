@@ -1,28 +1,27 @@
-//! The levels of a frame that passes a bus at once, laid out.
+//! The levels of a frame that passes a bus in one step.
 ghost use Rattle.std.specs.Prelude.{◌≡◌, ◌≢◌, ◌+◌, ◌++◌, ◌<◌, ◌≤◌, length, take};
 ghost use Rattle.can_mac.specs.Frames.{with_intermission};
 
 use can_frame::{Frame, Level};
 use can_wire::{LONGEST_WIRE, encode_into};
 
-/// How many bit times the shortest frame takes, with the intermission behind it. With this and the
-/// next three fewer frames are tried in vain: chosen for speed, and any above 1 prove.
+/// The bit times of the shortest frame and its intermission. This and the next three constants avoid useless attempts
+/// at frames that do not fit. They are chosen for speed; the proofs need only a value above 1.
 pub(super) const SHORTEST_LINE: usize = 47;
 
-/// How many the longest takes.
+/// The bit times of the longest frame and its intermission.
 pub(super) const LONGEST_LINE: usize = 160;
 
-/// How many more a byte of data takes.
+/// The bit times of a byte of data.
 const BYTE_LEVELS: usize = 8;
 
-/// How many more an extended frame takes.
+/// The additional bit times of an extended frame.
 const EXTENDED_LEVELS: usize = 20;
 
-/// How many levels stand behind the stuffed part of a frame; proofs count by it.
+/// The number of levels after the stuffed part of a frame. The proofs depend on it.
 const TAIL_LEVELS: usize = 10;
 
-/// The levels behind the stuffed part of a frame that is acknowledged, from the CRC delimiter to the end of frame, and of
-/// intermission.
+/// The levels after the stuffed part of an acknowledged frame, from the CRC delimiter to the end of intermission.
 pub(super) const END: [Level; 13] = [
     Level::Recessive,
     Level::Dominant,
@@ -39,7 +38,7 @@ pub(super) const END: [Level; 13] = [
     Level::Recessive,
 ];
 
-/// How many bit times the frame takes at least, with the intermission behind it: those that have no stuff bits.
+/// A lower bound of the bit times of the frame and its intermission: those without stuff bits.
 fn least_line(frame: &Frame) -> usize
     ensures { SHORTEST_LINE ≤ result }
 {
@@ -51,8 +50,8 @@ fn least_line(frame: &Frame) -> usize
     }
 }
 
-/// Puts the levels of a frame that is acknowledged, and of the intermission behind it, into the front of the slice, and
-/// answers how many they are; 0 where there is no room for them.
+/// Writes the levels of the acknowledged frame and its intermission to the front of the slice, and returns their
+/// number. It returns 0 if they do not fit.
 #[inline(never)]
 pub(super) fn lay_out(frame: &Frame, rec: &mut [Level]) -> usize
     ensures most { result ≤ length rec.old }
@@ -74,7 +73,7 @@ pub(super) fn lay_out(frame: &Frame, rec: &mut [Level]) -> usize
     count
 }
 
-/// Puts levels behind the first of the slice.
+/// Writes levels to the slice, from this place on.
 fn put(rec: &mut [Level], place: usize, levels: &[Level])
     requires { place + length levels.now ≤ length rec.old }
     ensures len { length rec.new ≡ length rec.old }

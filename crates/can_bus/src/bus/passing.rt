@@ -1,8 +1,8 @@
-//! A frame that passes a bus at once: where all ports that take part in it are idle or in suspend transmission and ask for
-//! no overload frame, one frame goes before all others with which they begin, and no hit falls, its levels and what it
-//! leaves are known as it begins. What is offered meanwhile waits behind it, so it may as well be offered behind it,
-//! unless the queue of its sender may be full. Where a hit falls, the sender goes through the levels up to it, and the
-//! others hear as much as it has heard.
+//! A frame that passes a bus in one step. This is possible if all ports that take part are idle or in suspend
+//! transmission with no overload frame requested, and one frame has priority over all others with which they start.
+//! If no hit falls in it, its levels and its effects are known at its start. Frames offered during it wait until it
+//! ends, so they may be offered after it, unless the queue of its transmitter may be full. If a hit falls in it, the
+//! transmitter samples the levels before the hit, and the others receive as much as it has sent.
 ghost use Rattle.std.specs.Prelude.{ℕ, ◌≡◌, ◌+◌, ◌-◌, ◌<◌, ◌≤◌, ◌^◌, drop, length, map, take, slice_get, slice_index_or, IfSome, IsNone, IsTrue, Some};
 ghost use Rattle.can_frame.specs.Arbitration.{arbitration_field};
 ghost use Rattle.can_frame.specs.Parts.{IsFrame, Parts};
@@ -29,13 +29,14 @@ use can_mac::Poised;
 use can_node::Port;
 use std::cmp::Ordering;
 
-/// How many bit times of a frame that is hit are worth to be passed at once. Chosen for speed; any above 1 proves.
+/// A frame that is hit is ridden only for at least this many bit times. Chosen for speed; the proofs need only a
+/// value above 1.
 const SHORTEST_RIDE: usize = 16;
 
 impl<P: Port> Bus<P> {
-    /// Runs the bit times of a whole frame, and of the intermission behind it, and records a level in each, where the
-    /// frame passes the bus at once, on which the wire is driven so; up to a hit in it, its first levels. The answer is how
-    /// many they are, and 0 where none does.
+    /// Runs the bit times of a whole frame and its intermission, and records their levels, if a frame can pass the
+    /// bus in one step. If a hit falls in it, it runs only bit times before the hit. `driven` is the wired level. It
+    /// returns how many bit times it has run, 0 if no frame can pass.
     #[inline(always)]
     pub(super) fn pass_frame(
         &mut self,
@@ -71,8 +72,8 @@ impl<P: Port> Bus<P> {
         count
     }
 
-    /// Runs the first bit times of a frame that passes the bus, these levels, up to the next in which a hit falls, and at
-    /// most up to the end of its stuffed part. The answer is how many they are, and 0 where they are few.
+    /// Runs the first bit times of a frame that passes the bus, with these levels: before the next hit, and at most
+    /// to the end of its stuffed part. It returns how many they are, 0 if they are few.
     #[inline(never)]
     fn ride_frame(
         &mut self,
@@ -114,9 +115,10 @@ impl<P: Port> Bus<P> {
         count
     }
 
-    /// The same with the offers that come within the frame, those to the port that sends as many as it has room for: they
-    /// are made behind the frame, which comes to the same. The wire is driven so, and the offers of the first bit time have
-    /// been made. Where none comes within the longest frame, the answer is 0: the frame is left to `pass_frame`.
+    /// Runs a whole frame and its intermission, with the offers that fall in it. These are made after the frame, to
+    /// the same effect, if the transmitter's queue has space for those to its port. `driven` is the wired level, and
+    /// the offers of the first bit time have been made. It returns 0 if no offer falls in the longest frame, and
+    /// leaves the frame to `pass_frame`.
     #[inline(always)]
     pub(super) fn pass_open_frame(
         &mut self,
@@ -177,7 +179,7 @@ impl<P: Port> Bus<P> {
         count
     }
 
-    /// Makes the offers of the times behind one and before another, in their order.
+    /// Makes the offers after time `begun` and before time `end`, in their order.
     #[inline(never)]
     fn make_behind(&mut self, offers: &[Offer], begun: u64, end: u64, progress: &mut Progress)
         requires offered { AreOffered (port_count self.old) offers.now }
@@ -191,7 +193,7 @@ impl<P: Port> Bus<P> {
         ensures reached { IsReached offers.now progress.new.place end }
         ensures refused { progress.new.refused ≤ progress.new.place }
     {
-        // the time up to which all are made
+        // the time up to which all offers have been made
         let mut made = begun;
         while let Some(time) = time_before(offers, progress.place, end) {
             self.make_all(offers, time, progress);
@@ -200,7 +202,7 @@ impl<P: Port> Bus<P> {
     }
 }
 
-/// The time of the offer at this place, if there is one, and it is before an end.
+/// The time of the offer at this place, if there is one and it is before `end`.
 fn time_before(offers: &[Offer], place: usize, end: u64) -> Option<u64>
     ensures some { IfSome result (λ time. (offer : Asked) × (slice_get offers.now place ≡ Some offer) × (offer.time ≡ time)) }
     ensures early { IfSome result (λ time. time < end) }
@@ -214,7 +216,7 @@ fn time_before(offers: &[Offer], place: usize, end: u64) -> Option<u64>
     }
 }
 
-/// How many of the offers from this place on that are earlier than a time are to this port.
+/// How many of the offers from this place on, before time `end`, are to this port.
 #[inline(never)]
 fn offers_to(offers: &[Offer], place: usize, node: usize, end: u64) -> usize
     requires { (m n : ℕ) (a b : Asked) → m ≤ n → slice_get offers.now m ≡ Some a → slice_get offers.now n ≡ Some b → a.time ≤ b.time }
@@ -231,7 +233,7 @@ fn offers_to(offers: &[Offer], place: usize, node: usize, end: u64) -> usize
     count
 }
 
-/// Whether so many more frames have room in the queue of the port at this place.
+/// Whether the queue of the port at this place has space for `count` more frames.
 #[inline(never)]
 fn has_room<P: Port>(ports: &[P], place: usize, count: usize) -> bool
     ensures { IsTrue result → HasRoom place count 0 (map P.port ports.now) }
@@ -245,15 +247,14 @@ fn has_room<P: Port>(ports: &[P], place: usize, count: usize) -> bool
     }
 }
 
-/// A frame that passes a bus at once, and the place of the port that sends it.
+/// A frame that passes a bus in one step, and the place of its transmitter.
 #[derive(Clone, Copy)]
 struct Passing {
     place: usize,
     frame: Frame,
 }
 
-/// The frame that passes a bus with these ports at once, at least one of which receives it; none where none does, or may
-/// not.
+/// The frame that can pass a bus with these ports in one step, if there is one and a port receives it.
 #[inline(never)]
 fn first_frame<P: Port>(ports: &[P]) -> Option<Passing>
     ensures passes { IfSome result (λ passing. PassesBus passing.frame (map P.port ports.now)) }
@@ -267,7 +268,7 @@ fn first_frame<P: Port>(ports: &[P]) -> Option<Passing>
         return None;
     }
     let frame = own_frame(&ports[place])?;
-    // Who reads a frame's bytes knows that it is a frame.
+    // reading the bytes of a frame shows the prover that it is within its limits
     let _ = frame.bytes();
     let before = is_received(&ports[..place], &frame)?;
     let behind = is_received(&ports[place + 1..], &frame)?;
@@ -278,7 +279,7 @@ fn first_frame<P: Port>(ports: &[P]) -> Option<Passing>
     }
 }
 
-/// The frame with which a port begins that it may pass at once.
+/// The frame with which a port starts, if that may pass it in one step.
 #[inline(always)]
 fn own_frame<P: Port>(port: &P) -> Option<Frame>
     ensures { IfSome result (λ frame. PassesFrom frame (P.port port.now)) }
@@ -289,7 +290,7 @@ fn own_frame<P: Port>(port: &P) -> Option<Frame>
     }
 }
 
-/// A port that begins with a frame.
+/// A port that starts with a frame.
 #[derive(Clone, Copy)]
 struct Contender {
     place: usize,
@@ -297,7 +298,7 @@ struct Contender {
     key: Key,
 }
 
-/// The place of the port that begins with a frame that goes before all others, if a frame may pass all ports at once.
+/// The place of the port that starts with the highest-priority frame, if a frame may pass all ports in one step.
 fn first_place<P: Port>(ports: &[P]) -> Option<usize> {
     let mut first: Option<Contender> = None;
     for (place, port) in ports.iter().enumerate() {
@@ -314,7 +315,7 @@ fn first_place<P: Port>(ports: &[P]) -> Option<usize> {
     Some(first?.place)
 }
 
-/// Of two, the one whose frame goes first.
+/// Of two ports, the one whose frame has the higher priority.
 #[inline(always)]
 fn first_of(one: Option<Contender>, other: Contender) -> Contender {
     match one {
@@ -323,7 +324,7 @@ fn first_of(one: Option<Contender>, other: Contender) -> Contender {
     }
 }
 
-/// Whether one of these ports receives the frame, which passes by all of them at once; none where it doesn't.
+/// Whether one of these ports receives the frame; `None` if it cannot pass all of them in one step.
 fn is_received<P: Port>(ports: &[P], frame: &Frame) -> Option<bool>
     ensures passes { IfSome result (λ received. PassesByAll frame.now (map P.port ports.now)) }
     ensures received { IfSome result (λ received. IsTrue received → IsReceived frame.now (map P.port ports.now)) }
@@ -338,8 +339,8 @@ fn is_received<P: Port>(ports: &[P], frame: &Frame) -> Option<bool>
     Some(received)
 }
 
-/// Whether a port receives the frame with this arbitration field, which passes by it at once; none where it doesn't. One
-/// that takes no part in it doesn't receive it.
+/// Whether a port receives the frame with this arbitration field; `None` if it cannot pass the port in one step. A
+/// port that takes no part in the frame does not receive it.
 #[inline(always)]
 fn receives<P: Port>(port: &P, key: Key) -> Option<bool>
     ensures passes { IfSome result (λ receives. (frame : Parts) → arbitration_field frame ≡ key → PassesBy frame (P.port port.now)) }
@@ -359,7 +360,7 @@ fn receives<P: Port>(port: &P, key: Key) -> Option<bool>
     }
 }
 
-/// Has the frame pass all ports.
+/// All ports take the frame in one step.
 #[inline(never)]
 fn pass_all<P: Port>(ports: &mut [P], frame: &Frame, levels: &[Level])
     requires whole { IsFrame frame.now }
@@ -372,7 +373,7 @@ fn pass_all<P: Port>(ports: &mut [P], frame: &Frame, levels: &[Level])
     }
 }
 
-/// Has the frame pass a port. One that takes no part in it goes through its levels.
+/// A port takes the frame in one step. A port that takes no part in it samples its levels.
 fn pass_one<P: Port>(port: &mut P, frame: &Frame, levels: &[Level])
     requires whole { IsFrame frame.now }
     requires levels { levels.now ≡ with_intermission frame.now }
@@ -385,7 +386,8 @@ fn pass_one<P: Port>(port: &mut P, frame: &Frame, levels: &[Level])
     }
 }
 
-/// Has all ports sample the first levels of a frame: its sender does so, and the others hear as much as it has heard.
+/// All ports sample the first levels of a frame: its transmitter level by level; the others are set to what it has
+/// received.
 fn ride_all<P: Port>(ports: &mut [P], passing: &Passing, levels: &[Level])
     requires whole { IsFrame passing.now.frame }
     requires place { passing.now.place < length ports.old }
@@ -404,7 +406,7 @@ fn ride_all<P: Port>(ports: &mut [P], passing: &Passing, levels: &[Level])
     ride_others(behind, sender, &passing.frame, levels);
 }
 
-/// Has ports sample the first levels of a frame, which another port has sampled.
+/// Ports sample the first levels of a frame, which another port has sampled.
 fn ride_others<P: Port>(ports: &mut [P], leader: &P, frame: &Frame, levels: &[Level])
     requires whole { IsFrame frame.now }
     requires levels { levels.now ≡ take (length levels.now) (with_intermission frame.now) }
@@ -419,7 +421,7 @@ fn ride_others<P: Port>(ports: &mut [P], leader: &P, frame: &Frame, levels: &[Le
     }
 }
 
-/// Has a port sample the first levels of a frame, which another port has sampled.
+/// A port samples the first levels of a frame, which another port has sampled.
 fn ride_one<P: Port>(port: &mut P, leader: &P, frame: &Frame, levels: &[Level])
     requires whole { IsFrame frame.now }
     requires levels { levels.now ≡ take (length levels.now) (with_intermission frame.now) }
@@ -435,7 +437,7 @@ fn ride_one<P: Port>(port: &mut P, leader: &P, frame: &Frame, levels: &[Level])
     }
 }
 
-/// How many recessive levels were recorded last, behind these.
+/// The number of recessive levels recorded last, after these.
 fn rest_behind(rest: u8, levels: &[Level]) -> u8
     requires { rest ≤ 11 }
     ensures { result ≡ rest_run rest levels.now }

@@ -1,4 +1,4 @@
-//! A run of a bus to whose ports frames are offered meanwhile.
+//! A run of a bus to whose ports frames are offered at run time.
 ghost use Rattle.std.specs.Prelude.{ℕ, ◌≡◌, ◌↔◌, length, Ok, IsOk, OnOk, OnErr, IfErr, IfOk};
 ghost use Rattle.can_bus.specs.Offers.{AreOffered, IsFirstOfferFault, played, played_level, refused};
 ghost use Rattle.can_bus.specs.OpenBus.{AreOver, OnOpenCall, OpenLogBegins, OpenLogWhole};
@@ -14,22 +14,21 @@ use can_frame::Level;
 use can_node::Port;
 
 impl<P: Port> Bus<P> {
-    /// Runs as many bit times as `rec` is long, and records a level in each. Each offer is made to its
-    /// port before the bit time of its number is driven, and those of one bit time in the order of the
-    /// list. The answer is how many of them a full queue gave back. Offers at or behind the end of `rec`
-    /// are not made.
+    /// Runs one bit time for each place of `rec`, with offers, and records the level of each. It returns how many
+    /// offers found a full queue. Each offer is made just before its bit time; those of one bit time in the order of
+    /// the list. Offers at or after the end of `rec` are not made.
     ///
-    /// No offer may be earlier than the one before it, and each must name a port that there is: else the
-    /// first that doesn't is told, its order before its port, nothing has run, and `rec` and all ports
-    /// are as they were. It takes no memory. Its work is in proportion to the offers, and to ports and bit
-    /// times; a bus at rest takes no time a port.
+    /// No offer may be earlier than the one before it, and each must name a port of the bus. Otherwise it returns the
+    /// first fault, the order being checked before the port; nothing has run, and `rec` and all ports are unchanged.
+    /// It allocates no memory. Its work is proportional to the offers, and to ports and bit times; a bus at rest
+    /// takes no time per port.
     ///
-    /// On a bus of two ports or more that are idle, have counted no error and ask for no overload frame,
-    /// with room in each queue for all that its port is offered and in each empty log for all frames, no
-    /// two of which have one arbitration field: each frame starts when the schedule says, and the recorded
-    /// levels are those of its track. Each log names the frames in the order of their starts, as sent at the
-    /// port that had the frame, and as received at each other port; behind the last level of the last
-    /// frame it names them all. No offer is given back, no counter moves, and no entry is missed.
+    /// On an open bus: it has two ports or more, all idle, with both counters 0 and no overload frame requested; each
+    /// queue has capacity for all that its port holds and is offered, each log is empty with capacity for all frames;
+    /// no two frames have the same arbitration field. Then each frame starts according to the schedule, and the
+    /// recorded levels are those of its track. Each log has the frames in the order of their starts, as sent at the
+    /// port that had the frame, and as received at each other port; after the last level of the last frame it has
+    /// them all. No offer is returned, no counter changes, and no entry is missed.
     pub fn play(&mut self, offers: &[Offer], rec: &mut [Level]) -> Result<usize, BusFault>
         ensures taken { IsOk result ↔ AreOffered (port_count self.old) offers.now }
         ensures fault { IfErr result (λ fault. IsFirstOfferFault (port_count self.old) offers.now fault) }

@@ -1,4 +1,4 @@
-//! A run of a bus to whose ports frames are offered meanwhile, and on which hits fall: a network.
+//! A run of a bus with offers and hits: a network.
 ghost use Rattle.std.specs.Prelude.{ℕ, ◌≡◌, ◌+◌, ◌<◌, ◌≤◌, ◌^◌, ◌↔◌, ◌⊎◌, not, length, slice_get, slice_index_or, Ok, Some, IsOk, OnOk, OnErr, IfErr, IfOk};
 ghost use Rattle.can_frame.specs.IdleRow.{idle_row};
 ghost use Rattle.can_frame.specs.Parts.{IsFrame};
@@ -24,7 +24,7 @@ use can_frame::Level;
 use can_hit::Hit;
 use can_node::Port;
 
-/// How far the offers of a call are made: those before this place, of which so many found a full queue.
+/// The offers made so far: those before this place, of which `refused` found a full queue.
 #[derive(Clone, Copy)]
 pub(super) struct Progress {
     pub(super) place: usize,
@@ -32,7 +32,7 @@ pub(super) struct Progress {
 }
 
 impl<P: Port> Bus<P> {
-    /// Makes an offer to its port, and answers whether the queue had room for it.
+    /// Makes an offer to its port. Returns whether the queue had space for it.
     fn make(&mut self, offer: Offer) -> bool
         requires named { offer.node < port_count self.old }
         ensures ports { port_states P.port self.new ≡ made offer 0 (port_states P.port self.old) }
@@ -62,7 +62,8 @@ impl<P: Port> Bus<P> {
         }
     }
 
-    /// How many bit times from this one on, whose offers are made, come before the next offer, `most` at most.
+    /// The number of bit times, from this one on, before the next offer; at most `most`. The offers of this one have
+    /// been made.
     fn until_offer(&self, offers: &[Offer], progress: &Progress, time: u64, most: usize) -> usize
         requires offered { AreOffered (port_count self.now) offers.now }
         requires reached { IsReached offers.now progress.now.place (time + 1) }
@@ -78,9 +79,9 @@ impl<P: Port> Bus<P> {
         }
     }
 
-    /// Runs some bit times, in the first of which the offers are made, and records a level in each: those of a whole frame
-    /// that passes the bus at once, with the offers meanwhile, or else some of those before the next offer. The answer is
-    /// how many they are.
+    /// Runs some bit times, in the first of which the offers have been made, and records their levels. It runs a
+    /// whole frame with the offers that fall in it, if one passes the bus in one step; otherwise some bit times
+    /// before the next offer. It returns how many they are.
     fn advance(
         &mut self,
         offers: &[Offer],
@@ -120,21 +121,25 @@ impl<P: Port> Bus<P> {
         self.advance_to_offer(hits, call, driven, &mut rec[..count])
     }
 
-    /// Runs as many bit times as `rec` is long, with offers and with hits, and records a level in each. Offers are made
-    /// as by `play`, and hits fall as in `run`. The answer is how many of the offers a full queue gave back.
+    /// Runs one bit time for each place of `rec`, with offers and hits, and records the level of each. It returns how
+    /// many offers found a full queue. Offers are made as by `play`, and hits fall as in `run`.
     ///
-    /// The offers must come in order and the hits rise, and all must name ports that there are: else the first offer
-    /// that doesn't is told, or the first hit, nothing has run, and `rec` and all ports are as they were. It takes no
-    /// memory.
+    /// Offers must be in order, hits in strictly rising order, and all must name ports of the bus. Otherwise it
+    /// returns the first fault, offers being checked before hits; nothing has run, and `rec` and all ports are
+    /// unchanged. It allocates no memory.
     ///
-    /// On a network, a bus at rest of two ports or more that are idle, error active and ask for no overload frame, with
-    /// room in each queue for all that its port is offered and in each log for all frames, where each arbitration field
-    /// belongs to one port, and at most one hit falls in an attempt, in the window of its frame, and no port counts
-    /// up to 128: the attempts are those of the course, and so are the recorded levels. Behind what it named before, each
-    /// log names the frames of the attempts that aren't hit, in their order, as sent at the port that had the frame and
-    /// as received at each other port; each whose wire has ended is there. Behind the last attempt all are, and the
-    /// counters are those of the tally. No offer is given back, all ports stay error active, and no entry is missed. Three
-    /// bit times later the bus is at rest again, with nothing left to send, and another such call can follow.
+    /// On a network:
+    /// - the bus is at rest, with two ports or more, all idle, error active and with no overload frame requested;
+    /// - each queue has capacity for all that its port holds and is offered, each log for all frames;
+    /// - each arbitration field belongs to one port;
+    /// - at most one hit falls in an attempt, in the window of its frame, and no counter of a port reaches 128.
+    ///
+    /// Then the attempts are those of the course, and so are the recorded levels. After its earlier entries, each log
+    /// has the frames of the attempts that are not hit, in their order, as sent at the port that had the frame, and
+    /// as received at each other port; each frame whose wire has ended is there. After the last attempt all are, and
+    /// the counters are those of the tally. No offer is returned, all ports stay error active, and no entry is
+    /// missed. Three bit times later the bus is at rest again, with nothing left to send, and another such call can
+    /// follow.
     pub fn play_disturbed(
         &mut self,
         offers: &[Offer],

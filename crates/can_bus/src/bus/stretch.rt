@@ -1,5 +1,5 @@
-//! Bit times before the next offer: those in which the bus rests and those of a frame are passed at once, others are
-//! taken level by level.
+//! Bit times before the next offer: those of a bus at rest and those of a frame pass in one step, others level by
+//! level.
 ghost use Rattle.std.specs.Prelude.{ℕ, ◌≡◌, ◌+◌, ◌<◌, ◌≤◌, ◌^◌, length, map, slice_index_or, IsTrue};
 ghost use Rattle.can_frame.specs.declared.level.Level.TheVariants.{Recessive};
 ghost use Rattle.can_node.specs.Ports.{port_drives, port_step};
@@ -15,8 +15,8 @@ use can_hit::Hit;
 use can_node::Port;
 
 impl<P: Port> Bus<P> {
-    /// Runs some bit times, in the first of which the wire is driven so, and records a level in each: one or more and at
-    /// most as many as `rec` is long. The answer is how many they are. A bus at rest takes no time a port.
+    /// Runs at least one bit time and at most one for each place of `rec`, and records their levels. `driven` is the
+    /// first wired level. It returns how many they are. A bus at rest takes no time per port.
     #[inline(always)]
     pub(super) fn advance_to_offer(
         &mut self,
@@ -52,8 +52,9 @@ impl<P: Port> Bus<P> {
         count
     }
 
-    /// How many bit times are taken level by level, of so many that are left: those before the bus may be at rest, or as
-    /// many as behind a start of frame where some port keeps it from rest. Chosen for speed; any above 0 proves.
+    /// How many of the `left` bit times to run level by level: those before the bus can be at rest, or a start of
+    /// frame and eleven more if a port keeps the bus from rest. Chosen for speed; the proofs need only a value above
+    /// 0.
     #[inline(always)]
     fn level_count(&self, left: usize) -> usize
         requires { 0 < left }
@@ -68,9 +69,9 @@ impl<P: Port> Bus<P> {
         count.min(left)
     }
 
-    /// Runs as many bit times as `rec` is long, level by level, in the first of which the wire is driven so, and records a
-    /// level in each. It stands apart, so that its loops have the registers to themselves, and in the one without hits
-    /// nothing is asked of them.
+    /// Runs one bit time for each place of `rec`, level by level, and records their levels. `driven` is the first
+    /// wired level. It is not inlined, so that its loops have the registers to themselves; the loop without hits does
+    /// not look for any.
     #[inline(never)]
     fn take_levels(&mut self, hits: &[Hit], call: &mut Call, driven: Level, rec: &mut [Level])
         requires driven { driven ≡ wired_of (map port_drives (port_states P.port self.old)) }
@@ -89,7 +90,7 @@ impl<P: Port> Bus<P> {
         }
     }
 
-    /// The same, whether there are hits or not.
+    /// Runs one bit time for each place of `rec`, level by level, with any hits.
     #[inline(always)]
     fn take_each(&mut self, hits: &[Hit], call: &mut Call, first: Level, rec: &mut [Level])
         requires driven { first ≡ wired_of (map port_drives (port_states P.port self.old)) }
@@ -107,8 +108,8 @@ impl<P: Port> Bus<P> {
         }
     }
 
-    /// In how many bit times from this one on the bus rests, at most so many: it has been recessive for eleven bit
-    /// times, all ports rest, and no hit falls in them. It may be fewer where a hit has just passed.
+    /// For how many bit times from this one on the bus stays at rest, at most `most`: it has been recessive for
+    /// eleven bit times, all ports are at rest, and no hit falls in them. It may be fewer right after a hit.
     #[inline(always)]
     fn resting(&self, hits: &[Hit], call: &Call, driven: Level, most: usize) -> usize
         requires driven { driven ≡ wired_of (map port_drives (port_states P.port self.now)) }
@@ -127,7 +128,7 @@ impl<P: Port> Bus<P> {
     }
 }
 
-/// Whether all ports rest. It ends at the first that doesn't.
+/// Whether all ports are at rest. It stops at the first that is not.
 #[inline(never)]
 fn all_rest<P: Port>(ports: &[P]) -> bool
     ensures { IsTrue result → map (λ p. port_step p Recessive) (map P.port ports.now) ≡ map P.port ports.now }

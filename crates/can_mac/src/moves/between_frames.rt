@@ -10,7 +10,7 @@ use crate::phase::{Phase, Role};
 use can_code::Sending;
 use can_frame::{Frame, IDLE_ROW, Level};
 
-/// How many recessive levels in a row a controller waits for before it is on the bus, less the last.
+/// After this many recessive levels in a row, the next one ends joining.
 pub(crate) const LAST_OF_JOINING: u8 = IDLE_ROW - 1;
 
 /// The last place of intermission.
@@ -19,7 +19,7 @@ pub(crate) const LAST_OF_INTERMISSION: u8 = 2;
 /// The last place of suspend transmission.
 pub(crate) const LAST_OF_SUSPEND: u8 = 7;
 
-/// A controller that isn't on the bus yet.
+/// Joining (bus integration).
 pub(crate) fn joining(stance: &Stance, row: u8, seen: Level) -> Entering
     ensures { result ≡ joining_move stance.now row seen }
 {
@@ -30,7 +30,7 @@ pub(crate) fn joining(stance: &Stance, row: u8, seen: Level) -> Entering
     }
 }
 
-/// An idle controller.
+/// Idle.
 pub(crate) fn idle(stance: &Stance, waiting: Option<&Frame>, seen: Level) -> Entering
     ensures { result ≡ idle_move stance.now (option_copied waiting.entry) seen }
 {
@@ -38,7 +38,7 @@ pub(crate) fn idle(stance: &Stance, waiting: Option<&Frame>, seen: Level) -> Ent
         (None, Level::Dominant) => stance.begins(Role::Receiver),
         (None, Level::Recessive) => stance.goes(Phase::Idle),
         (Some(frame), Level::Dominant) => stance.begins(Role::Sender(Sending::new(frame))),
-        // its own start of frame is not on the bus
+        // the dominant level that it drives as start of frame is not on the bus
         (Some(frame), Level::Recessive) => {
             let sender = Stance {
                 role: Role::Sender(Sending::new(frame)),
@@ -50,7 +50,7 @@ pub(crate) fn idle(stance: &Stance, waiting: Option<&Frame>, seen: Level) -> Ent
     }
 }
 
-/// What a controller is to a frame that begins in the last bit of intermission.
+/// Transmitter or receiver of a frame that begins in the last bit of intermission.
 pub(crate) fn role_in_next(held_back: bool, waiting: Option<&Frame>) -> Role
     ensures { result ≡ next_role held_back (option_copied waiting.entry) }
 {

@@ -1,5 +1,4 @@
-//! Error flags, overload flags and their delimiters. (Bosch CAN 2.0 part B, sections 3.2.3, 3.2.4
-//! and 8)
+//! Error flags, overload flags and their delimiters. (Bosch CAN 2.0 part B, sections 3.2.3, 3.2.4 and 8)
 
 ghost use Rattle.std.specs.Prelude.{◌≡◌, ◌<◌};
 ghost use Rattle.can_mac.specs.Moves.{after_flag_move, delimiter_move, dominant_cause, error_flag_move, overload_flag_move, passive_flag_move};
@@ -13,10 +12,10 @@ use can_frame::Level;
 /// The last place of a flag.
 pub(crate) const LAST_OF_FLAG: u8 = 5;
 
-/// How many equal levels in a row complete a passive error flag.
+/// The number of equal levels in a row that complete a passive error flag.
 pub(crate) const PASSIVE_FLAG_LENGTH: u8 = 6;
 
-/// Behind a flag each eighth dominant level in a row is counted.
+/// After this many dominant levels after a flag, the next one is counted.
 const LAST_OF_DOMINANT_RUN: u8 = 7;
 
 /// The last place of a delimiter.
@@ -90,7 +89,7 @@ pub(crate) fn passive_flag(
     }
 }
 
-/// What a dominant level behind a flag counts.
+/// The cause of a dominant level after a flag.
 fn cause_of_dominant(role: &Role, first: bool, dominant: u8) -> Option<Cause>
     ensures { result ≡ dominant_cause role.now first dominant }
 {
@@ -102,7 +101,7 @@ fn cause_of_dominant(role: &Role, first: bool, dominant: u8) -> Option<Cause>
     }
 }
 
-/// Behind a flag, before the first recessive level.
+/// After a flag, before the first recessive level.
 pub(crate) fn after_flag(stance: &Stance, first: bool, dominant: u8, seen: Level) -> Entering
     ensures { result ≡ after_flag_move stance.now first dominant seen }
 {
@@ -125,7 +124,7 @@ pub(crate) fn after_flag(stance: &Stance, first: bool, dominant: u8, seen: Level
     }
 }
 
-/// The delimiter behind a flag.
+/// The delimiter after a flag.
 pub(crate) fn delimiter(stance: &Stance, place: u8, seen: Level) -> Entering
     ensures { result ≡ delimiter_move stance.now place seen }
 {

@@ -23,7 +23,7 @@ pub(crate) fn crc_delimiter(stance: &Stance, reading: &Reading, seen: Level) -> 
     }
 }
 
-/// A sender that has no acknowledgement. If it is error passive this counts nothing yet.
+/// A transmitter without acknowledgment. If it is error passive, nothing is counted yet.
 fn unacknowledged(stance: &Stance) -> Entering
     ensures { result ≡ unacknowledged_move stance.now }
 {
@@ -34,7 +34,7 @@ fn unacknowledged(stance: &Stance) -> Entering
     }
 }
 
-/// The ACK slot. A receiver whose check sequence agrees acknowledges; another one only listens.
+/// The ACK slot. A receiver that found the CRC sequence right drives dominant; any other controller drives recessive.
 pub(crate) fn ack_slot(stance: &Stance, reading: &Reading, seen: Level) -> Entering
     ensures { result ≡ ack_slot_move stance.now stance.now.role reading.now seen }
 {
@@ -51,7 +51,7 @@ pub(crate) fn ack_slot(stance: &Stance, reading: &Reading, seen: Level) -> Enter
     }
 }
 
-/// Whether it is a receiver whose check sequence differs.
+/// Whether it is a receiver that found the CRC sequence wrong.
 pub(crate) fn is_refused(role: &Role, reading: &Reading) -> bool
     ensures { result ≡ refuses role.now reading.now }
 {
@@ -75,8 +75,8 @@ pub(crate) fn ack_delimiter(stance: &Stance, reading: &Reading, seen: Level) -> 
     }
 }
 
-/// The end of frame. For its sender a frame is valid where no level of it is dominant, for a receiver
-/// where none but the last is.
+/// The end of frame. For the transmitter a frame is valid if no level of it is dominant; for a receiver, if none
+/// before the last is.
 pub(crate) fn end_of_frame(stance: &Stance, reading: &Reading, place: u8, seen: Level) -> Entering
     ensures { result ≡ end_of_frame_move stance.now stance.now.role reading.now place seen }
 {
@@ -86,7 +86,7 @@ pub(crate) fn end_of_frame(stance: &Stance, reading: &Reading, place: u8, seen: 
     }
 }
 
-/// The end of frame, for the sender.
+/// The end of frame, for the transmitter.
 fn sender_end(
     stance: &Stance,
     sending: &Sending,

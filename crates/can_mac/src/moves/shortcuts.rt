@@ -1,14 +1,14 @@
-//! The quick ways of most levels, in the order in which they are asked. Each takes the levels that are its own in place,
-//! and spares the memory of a [`Move`](crate::moves::Move); on any other it changes nothing, and the next way is asked.
-//! (Bosch CAN 2.0 part B, sections 3.2 and 5)
+//! The fast paths for most levels, in the order in which they are tried. Each takes its levels in place, without the
+//! memory of a [`Move`](crate::moves::Move). On any other level it changes nothing, and the next one is tried. (Bosch
+//! CAN 2.0 part B, sections 3.2 and 5)
 //!
-//! - silently ([`hears_on_silently`], [`goes_on_silently`]): nothing but the phase changes, and recessive is driven next,
-//!   whatever waits
-//! - quietly ([`goes_on_quietly`]): nothing but the phase changes
-//! - in place ([`move_in_place`]): a move of a frame that goes well
+//! - silently ([`hears_on_silently`], [`goes_on_silently`]): only the phase changes, and the controller drives
+//!   recessive next, with any pending frame
+//! - quietly ([`goes_on_quietly`]): only the phase changes
+//! - in place ([`move_in_place`]): a transition of a frame without errors
 //!
-//! `next_move` of `moves.rt` takes what is left. docs/ARCHITECTURE.md has who asks them, beside the ways of ports and
-//! buses; docs/DECISIONS.md tells what each spares.
+//! `next_move` of `moves.rt` takes all other levels. docs/ARCHITECTURE.md says who calls these paths, and
+//! docs/DECISIONS.md what each saves.
 
 ghost use Rattle.std.specs.Prelude.{ℕ, Bool, ◌≡◌, ◌≢◌, IfSome, IsFalse, IsNone, IsTrue, Option, None, Some, false};
 ghost use Rattle.std.specs.Option.{option_copied};
@@ -37,8 +37,8 @@ use can_code::{FrameBits, Front, Place};
 use can_fault::Cause;
 use can_frame::{Frame, Level};
 
-/// Takes a level with which the controller just goes on, which most are: nothing but its phase changes, in
-/// place. It answers whether the level is one; else nothing changes.
+/// Takes a level that changes only the phase, in place, and returns true. On any other level it returns false and
+/// changes nothing.
 #[inline(always)]
 pub(crate) fn goes_on_quietly<B: FrameBits>(
     role: &Role,
@@ -58,7 +58,7 @@ pub(crate) fn goes_on_quietly<B: FrameBits>(
     }
 }
 
-/// The same, in the stuffed part of a frame, where what waits changes nothing.
+/// Quietly, in the stuffed part, with any pending frame.
 #[inline(always)]
 fn hears_on<B: FrameBits>(role: &Role, phase: &mut Phase<Front<B>>, seen: Level) -> bool
     requires { IsPhase phase.old }
@@ -81,7 +81,7 @@ fn hears_on<B: FrameBits>(role: &Role, phase: &mut Phase<Front<B>>, seen: Level)
     true
 }
 
-/// The same at a receiver, which drives recessive behind such a level.
+/// Silently, in the stuffed part: only at a receiver, which drives recessive next.
 #[inline(always)]
 pub(crate) fn hears_on_silently<B: FrameBits>(
     role: &Role,
@@ -101,9 +101,10 @@ pub(crate) fn hears_on_silently<B: FrameBits>(
     }
 }
 
-/// Takes a level with which the controller just goes on, and behind which it drives recessive whatever waits, outside of
-/// the stuffed part: in the end of frame, in a passive error flag, behind flags and in delimiters, in intermission and
-/// suspend transmission, and while joining. It answers whether the level is one; else nothing changes.
+/// Takes a level outside of the stuffed part that changes only the phase, and after which the controller drives
+/// recessive with any pending frame, and returns true. Such levels are in the end of frame, passive error flags,
+/// delimiters, intermission, suspend transmission and joining, or directly follow a flag. On any other level it
+/// returns false and changes nothing.
 #[inline(always)]
 pub(crate) fn goes_on_silently<B: FrameBits>(phase: &mut Phase<Front<B>>, seen: Level) -> bool
     requires { IsPhase phase.old }
@@ -120,7 +121,7 @@ pub(crate) fn goes_on_silently<B: FrameBits>(phase: &mut Phase<Front<B>>, seen: 
     }
 }
 
-/// The same, in a passive error flag, with a level that counts nothing. (Bosch CAN 2.0 part B, section 3.2.3)
+/// Silently, in a passive error flag: a level that counts nothing. (Bosch CAN 2.0 part B, section 3.2.3)
 #[inline(always)]
 fn goes_on_in_passive_flag<B: FrameBits>(phase: &mut Phase<Front<B>>, seen: Level) -> bool
     requires { IsPhase phase.old }
@@ -154,7 +155,7 @@ fn goes_on_in_passive_flag<B: FrameBits>(phase: &mut Phase<Front<B>>, seen: Leve
     true
 }
 
-/// The same, with the first recessive level behind a flag.
+/// Silently, with the first recessive level after a flag.
 #[inline(always)]
 fn goes_on_behind_flag<B: FrameBits>(phase: &mut Phase<Front<B>>, seen: Level) -> bool
     requires { IsPhase phase.old }
@@ -173,7 +174,7 @@ fn goes_on_behind_flag<B: FrameBits>(phase: &mut Phase<Front<B>>, seen: Level) -
     }
 }
 
-/// The same, where a level that is counted in the phase is the next one.
+/// Silently, in a phase that counts its levels.
 #[inline(always)]
 fn goes_on_counting<B: FrameBits>(phase: &mut Phase<Front<B>>, seen: Level) -> bool
     requires { IsPhase phase.old }
@@ -212,7 +213,7 @@ fn goes_on_counting<B: FrameBits>(phase: &mut Phase<Front<B>>, seen: Level) -> b
     }
 }
 
-/// The same, outside of the stuffed part of a frame. It stands apart, since most levels are of that part.
+/// Quietly, outside of the stuffed part. It is not inlined: most levels are in the stuffed part.
 #[inline(never)]
 fn goes_on_quietly_outside<B: FrameBits>(
     role: &Role,
@@ -249,7 +250,7 @@ fn goes_on_quietly_outside<B: FrameBits>(
     }
 }
 
-/// The same, in an active error flag and in an overload flag.
+/// Quietly, in an active error flag or overload flag.
 #[inline(always)]
 fn goes_on_in_flag<B: FrameBits>(phase: &mut Phase<Front<B>>, seen: Level) -> bool
     requires { IsPhase phase.old }
@@ -272,7 +273,7 @@ fn goes_on_in_flag<B: FrameBits>(phase: &mut Phase<Front<B>>, seen: Level) -> bo
     }
 }
 
-/// Ends the stuffed part of a frame, where it has ended.
+/// Leaves the stuffed part of a frame, if it has ended.
 #[inline(never)]
 fn end_part<B: FrameBits>(phase: &mut Phase<Front<B>>)
     ensures { (front : FrontParts) → phase.old ≡ StuffedPart front → phase.new ≡ part_phase front }
@@ -283,7 +284,7 @@ fn end_part<B: FrameBits>(phase: &mut Phase<Front<B>>)
     }
 }
 
-/// Passes the CRC delimiter or the ACK delimiter. It stands apart for the memory that a new phase takes.
+/// Passes the CRC delimiter or the ACK delimiter. It is not inlined, because a new phase takes memory.
 #[inline(never)]
 fn pass_delimiter<B: FrameBits>(phase: &mut Phase<Front<B>>)
     ensures check { (r : ReadingParts) → phase.old ≡ CrcDelimiter r → phase.new ≡ AckSlot r }
@@ -301,7 +302,7 @@ fn pass_delimiter<B: FrameBits>(phase: &mut Phase<Front<B>>)
     }
 }
 
-/// What a move that is made in place counts and tells.
+/// The cause and the event of a transition that is made in place.
 #[derive(Drop)]
 pub(crate) struct Outcome {
     pub(crate) cause: Option<Cause>,
@@ -309,7 +310,7 @@ pub(crate) struct Outcome {
 }
 
 impl Outcome {
-    /// Nothing is counted, and nothing told.
+    /// No cause and no event.
     fn quiet() -> Outcome
         ensures { result ≡ record { cause = None; event = None } }
     {
@@ -320,7 +321,7 @@ impl Outcome {
     }
 }
 
-/// Makes the move of this level in place, if it is one of a frame that goes well. Else nothing changes.
+/// Makes a transition of a frame without errors in place. On any other level nothing changes.
 #[tactic(auto, using(crate::proofs::Landing::idle_begins))]
 pub(crate) fn move_in_place<B: FrameBits>(
     passive: bool,
@@ -349,7 +350,7 @@ pub(crate) fn move_in_place<B: FrameBits>(
     }
 }
 
-/// A frame begins, whose sender the controller is where a frame waits.
+/// A frame begins. A controller with a pending frame is its transmitter.
 fn begin<B: FrameBits>(
     phase: &mut Phase<Front<B>>,
     role: &mut Role,
@@ -367,7 +368,8 @@ fn begin<B: FrameBits>(
     Outcome::quiet()
 }
 
-/// The last level of intermission, at a controller that isn't held back: it is idle, or a frame begins.
+/// The last level of intermission, at a controller that need not suspend transmission: it becomes idle, or a frame
+/// begins.
 fn end_intermission<B: FrameBits>(
     passive: bool,
     phase: &mut Phase<Front<B>>,
@@ -394,7 +396,8 @@ fn end_intermission<B: FrameBits>(
     }
 }
 
-/// Whether it is a sender that loses arbitration by a dominant level: in its arbitration it sends a recessive one.
+/// Whether it is a transmitter that a dominant level makes lose arbitration: it sends a recessive bit, up to and
+/// including its RTR bit.
 fn loses<B: FrameBits>(role: &Role, front: &Front<B>) -> bool
     requires { next_place_of front.now ≢ Place.CrcDelimiter }
     ensures lost { IsTrue result → (s : Standing) → s.role ≡ role.now →
@@ -413,7 +416,7 @@ fn loses<B: FrameBits>(role: &Role, front: &Front<B>) -> bool
     }
 }
 
-/// A sender that loses arbitration hears the level as a receiver.
+/// A transmitter that loses arbitration takes the level as a receiver.
 fn lose<B: FrameBits>(phase: &mut Phase<Front<B>>, role: &mut Role) -> Option<Outcome>
     requires { IsPhase phase.old }
     ensures made { IfSome result (λ outcome. (s : Standing) (waiting : Option Parts) → s.role ≡ role.old →
@@ -438,7 +441,7 @@ fn lose<B: FrameBits>(phase: &mut Phase<Front<B>>, role: &mut Role) -> Option<Ou
     })
 }
 
-/// A dominant ACK slot, at the sender or at a receiver whose check sequence agrees.
+/// A dominant ACK slot, at the transmitter or at a receiver that found the CRC sequence right.
 fn pass_slot<B: FrameBits>(phase: &mut Phase<Front<B>>, role: &Role) -> Option<Outcome>
     ensures made { IfSome result (λ outcome. (s : Standing) (waiting : Option Parts) → s.role ≡ role.now →
         record { phase = phase.new; role = s.role; overloads = s.overloads; cause = outcome.cause; event = outcome.event } ≡ move s phase.old waiting Level.Dominant) }
@@ -456,8 +459,7 @@ fn pass_slot<B: FrameBits>(phase: &mut Phase<Front<B>>, role: &Role) -> Option<O
     Some(Outcome { cause, event: None })
 }
 
-/// The level of the end of frame that makes the frame valid, and the last level of it where no overload frame is
-/// asked for.
+/// The level of the end of frame that makes the frame valid; and its last level, if no overload frame is requested.
 fn end_frame<B: FrameBits>(
     phase: &mut Phase<Front<B>>,
     role: &Role,

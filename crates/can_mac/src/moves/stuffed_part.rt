@@ -1,4 +1,4 @@
-//! The stuffed part of a frame, heard in place. (Bosch CAN 2.0 part B, sections 2, 6, 7.1 and 8)
+//! The stuffed part of a frame, received in place. (Bosch CAN 2.0 part B, sections 2, 6, 7.1 and 8)
 
 ghost use Rattle.std.specs.Prelude.{◌≡◌, ◌≢◌, List, length, if◌then◌else◌, false, IsTrue};
 ghost use Rattle.can_frame.specs.declared.level.Level.{Level as Bit};
@@ -32,7 +32,7 @@ pub(crate) fn stuffed_part<B: FrameBits>(
     }
 }
 
-/// Whether a level of the stuffed part is no error and loses no arbitration, so that it is only heard.
+/// Whether a level of the stuffed part causes no error and no loss of arbitration.
 #[inline(always)]
 pub(crate) fn is_in_order<B: FrameBits>(role: &Role, front: &Front<B>, seen: Level) -> bool
     requires { next_place_of front.now ≢ Place.CrcDelimiter }
@@ -49,7 +49,7 @@ pub(crate) fn is_in_order<B: FrameBits>(role: &Role, front: &Front<B>, seen: Lev
     }
 }
 
-/// Hears a level, which may be a wrong stuff bit.
+/// Receives a level, which may be a stuff error.
 fn hear<B: FrameBits>(stance: &Stance, front: &mut Front<B>, seen: Level) -> Hearing
     requires { next_place_of front.old ≢ Place.CrcDelimiter }
     ensures { move_keeping (StuffedPart front.new) result ≡ (if is_stuff_error front.old seen then stuff_error_move stance.now front.old seen else hears stance.now front.old seen) }
@@ -66,7 +66,7 @@ fn hear<B: FrameBits>(stance: &Stance, front: &mut Front<B>, seen: Level) -> Hea
     }
 }
 
-/// Where the stuffed part has ended, what it has told.
+/// The next phase with the frame as received, if the stuffed part has ended.
 pub(crate) fn end_of_part<B: FrameBits>(front: &Front<B>) -> Option<Phase<NewFrame>>
     ensures { phase_after (StuffedPart front.now) result ≡ part_phase front.now }
 {
@@ -79,8 +79,7 @@ pub(crate) fn end_of_part<B: FrameBits>(front: &Front<B>) -> Option<Phase<NewFra
     }
 }
 
-/// A stuff place repeats the level before it. In arbitration a sender sent a recessive stuff bit and
-/// saw a dominant one: this counts nothing.
+/// A stuff error. It counts nothing if, in arbitration, a transmitter sent a recessive stuff bit and sees dominant.
 fn stuff_error(stance: &Stance, place: usize, seen: Level) -> Entering
     ensures { (front : FrontParts) → length front.unstuffed ≡ place → result ≡ stuff_error_move stance.now front seen }
 {
@@ -92,17 +91,17 @@ fn stuff_error(stance: &Stance, place: usize, seen: Level) -> Entering
     }
 }
 
-/// Whether the unstuffed level at this place of a frame belongs to its identifier or is a bit that
-/// stands with it: SRR and IDE of an extended frame, RTR.
+/// Whether the unstuffed level at this place is before or at the RTR bit: identifier, RTR, and in an extended frame
+/// SRR and IDE.
 pub(crate) fn is_in_arbitration(sending: &Sending, place: usize) -> bool
     ensures { (u : List Bit) → length u ≡ place → result ≡ in_arbitration sending.now u }
 {
-    // the frame is worked out of its levels, which most places don't need
+    // decoding the frame is slow, and most places don't need it
     place <= rtr_place(false) || place <= rtr_place(true) && sending.frame().is_extended()
 }
 
-/// A level of its frame that a sender sent, and the one that it sees. A recessive level that is overridden in its
-/// arbitration loses arbitration.
+/// A bit of its frame that a transmitter sent, and the level that it sees. If it sent recessive and sees dominant, up
+/// to and including its RTR bit, it loses arbitration.
 fn sent_bit<B: FrameBits>(
     stance: &Stance,
     sending: &Sending,

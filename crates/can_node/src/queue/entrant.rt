@@ -13,7 +13,7 @@ pub struct Entrant {
     pub place: usize,
 }
 
-/// Of two, the one that goes before the other: that of the lower field, and of one field that of the lower place.
+/// Of two entrants, the one with the lower arbitration field; of equal fields, the one with the lower place.
 #[inline(always)]
 pub fn earlier(left: Option<Entrant>, right: Option<Entrant>) -> Option<Entrant>
     ensures { result ≡ earlier_of left right }
@@ -25,7 +25,7 @@ pub fn earlier(left: Option<Entrant>, right: Option<Entrant>) -> Option<Entrant>
     }
 }
 
-/// Whether two are one.
+/// Whether two entrants are equal.
 #[inline(always)]
 pub fn is_same(one: &Option<Entrant>, other: &Option<Entrant>) -> bool
     ensures { IsTrue result → one.now ≡ other.now }

@@ -7,19 +7,19 @@ use can_frame::{Frame, Key};
 use std::alloc::{AllocError, Global};
 use std::cmp::Ordering;
 
-/// The winners of a tournament of slots: at each node the frame that goes before the others below it.
+/// The winners of a tournament of slots: at each node, the frame with the highest priority of those below it.
 ///
-/// The nodes are numbered from 1 on. Below node n stand the nodes 2 n and 2 n + 1; the nodes from the width on are the
+/// Nodes are numbered from 1. The children of node n are nodes 2 n and 2 n + 1. Nodes from the width on are the
 /// slots, in their order.
 #[derive(Drop)]
 pub struct Winners {
-    /// The winner at each node below the width. Nothing stands at place 0.
+    /// The winner at each node below the width. Place 0 is unused.
     entrants: Vec<Option<Entrant>>,
     ghost few: { length entrants.items ≤ 2 ^ 62 },
 }
 
 impl Winners {
-    /// A tournament of no slots, with memory for so many.
+    /// A tournament of no slots, with memory for `room` slots.
     pub fn with_room(alloc: Global, room: usize) -> Result<Winners, AllocError>
         ensures none { IfOk result (λ w. w.entrants.items ≡ []) }
         ensures room { IfOk result (λ w. room ≤ vec_capacity w.entrants) }
@@ -30,7 +30,7 @@ impl Winners {
         })
     }
 
-    /// The same tournament once more, with memory for so many slots.
+    /// A copy of this tournament, with memory for `room` slots.
     pub fn copied(&self, alloc: Global, room: usize) -> Result<Winners, AllocError>
         ensures same { IfOk result (λ w. w.entrants.items ≡ self.now.entrants.items) }
         ensures room { IfOk result (λ w. room ≤ vec_capacity w.entrants) }
@@ -40,14 +40,14 @@ impl Winners {
         })
     }
 
-    /// For how many slots there are nodes.
+    /// The number of slots for which there are nodes.
     pub fn width(&self) -> usize
         ensures { result ≡ length self.now.entrants.items }
     {
         self.entrants.len()
     }
 
-    /// The frame that goes before all others.
+    /// The winner of all slots.
     pub fn first(&self, slots: &[Option<Frame>]) -> Option<Entrant>
         ensures { result ≡ winner_at self.now.entrants.items slots.now 1 }
     {
@@ -71,7 +71,7 @@ impl Winners {
         })
     }
 
-    /// Which of the two below a node goes before the other.
+    /// The winner of the two children of a node.
     #[inline(always)]
     fn below(&self, slots: &[Option<Frame>], node: usize) -> Option<Entrant>
         requires { node < length self.now.entrants.items }
@@ -80,7 +80,7 @@ impl Winners {
         earlier(self.at(slots, 2 * node), self.at(slots, 2 * node + 1))
     }
 
-    /// Plays the nodes over a slot anew, once another frame or none stands in it.
+    /// Plays the nodes above a slot again, after its frame has changed.
     pub fn replay(&mut self, slots: &[Option<Frame>], place: usize)
         requires place { place < length self.old.entrants.items }
         requires others { IsPlayedBut (length self.old.entrants.items + place) self.old.entrants.items slots.now }
@@ -99,7 +99,7 @@ impl Winners {
         }
     }
 
-    /// Plays all nodes anew, for so many slots.
+    /// Plays all nodes again, for `width` slots.
     pub fn restart(&mut self, slots: &[Option<Frame>], width: usize)
         requires room { width ≤ vec_capacity self.old.entrants }
         requires few { width ≤ 2 ^ 62 }
@@ -107,7 +107,7 @@ impl Winners {
         ensures width { length self.new.entrants.items ≡ width }
         ensures capacity { vec_capacity self.old.entrants ≤ vec_capacity self.new.entrants }
     {
-        // There is room, so that no memory is taken.
+        // the capacity suffices, so no memory is allocated
         let _ = self.entrants.resize(width, None);
         let mut node = width;
         while node > 1 {
@@ -116,8 +116,8 @@ impl Winners {
         }
     }
 
-    /// The place of the first frame below a node that has this arbitration field. Only nodes whose winner has a lower
-    /// field are looked into.
+    /// The place of the first frame below a node that has this arbitration field. It descends only from nodes whose
+    /// winner has a lower field.
     pub fn first_of(&self, slots: &[Option<Frame>], field: Key, node: usize) -> Option<usize>
         requires node { 1 ≤ node }
         requires slots { length slots.now ≤ length self.now.entrants.items }
@@ -137,14 +137,14 @@ impl Winners {
     }
 }
 
-/// The frame in a slot. Behind the last there is none.
+/// The frame in a slot. There is none after the last slot.
 pub fn frame_at(slots: &[Option<Frame>], place: usize) -> Option<Frame>
     ensures { result ≡ get_or slots.now place None }
 {
     slots.get(place).copied().flatten()
 }
 
-/// The lower of two places, or the one that there is.
+/// The lower of two places, or the only one.
 fn lower(left: Option<usize>, right: Option<usize>) -> Option<usize>
     ensures { result ≡ lower_of left right }
 {

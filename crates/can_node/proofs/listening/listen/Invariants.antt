@@ -2,6 +2,6 @@ use Rattle.std.proofs.Common.{◌≡◌, drop}
 use Rattle.can_node.specs.Ports.{port_run}
 use Rattle.can_node.proofs.listening.listen.Given as goal
 
--- the levels that are left take the port to where all of them take the one at the start
+-- the levels that are left lead from the present port to the same state as all levels from the first
 abbrev pub invariant-loop-level : goal.invariant-loop-level
 invariant-loop-level g l = port_run (g.P.Port.port l.port) (drop l.level-index l.seen) ≡ port_run (g.P.Port.port l.fn.port) l.seen

@@ -5,7 +5,7 @@ use Rattle.can_plan.specs.Messages.{ArePeriodic, most_hits}
 use Rattle.can_plan.proofs.Periods.{all_have}
 use Rattle.can_plan.proofs.margin.first_late_from.Given as goal
 
--- those before this place meet their deadlines; where a period is 0 there is none
+-- those before this place meet their deadlines; if a period is 0 there is none
 abbrev pub invariant-loop-place : goal.invariant-loop-place
 invariant-loop-place l =
     (ArePeriodic l.messages → (k : ℕ) → k < l.place → MeetsDeadline l.rate l.limit l.messages l.deadlines k)
