@@ -65,11 +65,11 @@ impl<B: FrameBits> Decoder<B> {
         }
     }
 
-    /// Takes one more level of the frame, and returns one of these:
+    /// Takes one more level, and returns whether the frame continues, is complete or has a fault.
     ///
     /// - `Ok(None)`: the frame continues.
     /// - `Ok(Some(heard))`: the level was the last one of this frame.
-    /// - `Err(kind)`: the level shows this fault.
+    /// - `Err(kind)`: the level shows a fault of this kind.
     ///
     /// After the last level and after a fault nothing is promised of further calls.
     #[inline]

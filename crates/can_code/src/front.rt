@@ -121,7 +121,7 @@ impl<B: FrameBits> Front<B> {
         taken + self.hear_last(&digits[taken..])
     }
 
-    /// Takes levels before the last one of the CRC sequence.
+    /// Takes levels, at most to the last but one of the CRC sequence.
     #[inline]
     fn hear_parts(&mut self, digits: &[u8]) -> usize
         requires { next_place_of self.old ≢ Place.CrcDelimiter }

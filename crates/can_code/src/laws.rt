@@ -15,8 +15,8 @@ pub fn one_code_fault()
     ensures { (l : List Bit) (f g : Fault) → IsCodeFault l f → IsCodeFault l g → f ≡ g }
 {}
 
-/// A front that takes the levels of a stuffed part after the start of frame has its unstuffed
-/// levels, and ends where it ends. No other levels end a front.
+/// A front takes the levels of a stuffed part after the start of frame, and ends exactly with it.
+/// Then it has the unstuffed levels of this part. No other levels end a front.
 pub fn stuffed_parts_are_heard()
     ensures exists { (u b : List Bit)
         → IsComplete u → Stuffs u (Dominant ∷ b)

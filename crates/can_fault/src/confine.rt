@@ -143,8 +143,9 @@ impl Confine {
         ended
     }
 
-    /// Takes levels while the node is bus off, and returns after how many of them bus off ends. Returns `None`
-    /// if it does not end with any of them. In any other state it returns `None`, and nothing changes.
+    /// Takes levels while the node is bus off, and returns after how many of them bus off ends. Then both
+    /// counters are 0, and the node is error active. Returns `None` if bus off does not end with any of them.
+    /// In any other state it returns `None`, and nothing changes.
     pub fn recover_over(&mut self, levels: &[Level]) -> Option<usize>
         ensures ended { IfSome result (EndsBehind self.old levels.now) }
         ensures cleared { OnSome result (self.new ≡ fresh) }

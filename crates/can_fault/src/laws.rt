@@ -6,8 +6,8 @@ ghost use Rattle.can_fault.specs.declared.state.State.TheVariants.{BusOff};
 ghost use Rattle.can_fault.specs.Counters.{ConfineParts, counted, fresh, IsConfine, state_of};
 ghost use Rattle.can_fault.specs.Recovery.{after_levels, ends_bus_off, EndsBusOff, recessive_runs, recovered, StaysBusOff};
 
-/// The invariant of fault confinement holds for a node that has counted nothing, and each cause and
-/// each level preserves it.
+/// The invariant of fault confinement holds for a new node, and each cause and each level preserves
+/// it.
 pub fn confinement_is_kept()
     ensures fresh { IsConfine fresh }
     ensures counted { (cause : Event) (c : ConfineParts) → IsConfine c → IsConfine (counted cause c) }
@@ -20,8 +20,8 @@ pub fn runs_end_at_dominant_levels()
     ensures parted { (n : ℕ) (l : List Bit) → recessive_runs (replicate n Recessive ++ Dominant ∷ l) ≡ n ∷ recessive_runs l }
 {}
 
-/// Recovery level by level agrees with recovery over the whole list: a node is bus off until the list
-/// ends bus off.
+/// Recovery level by level agrees with recovery over the whole list of levels. A node is bus off
+/// until the list ends bus off.
 pub fn recovery_goes_level_by_level()
     ensures ends { (c : ConfineParts) (l : List Bit) (x : Bit)
         → IsConfine c → state_of c ≡ BusOff → StaysBusOff c l

@@ -43,8 +43,8 @@ impl LongestWires {
         Ok(LongestWires { rows })
     }
 
-    /// Returns the maximum number of levels of a frame with this identifier, kind and DLC, from the start of
-    /// frame to the end of frame.
+    /// Returns the maximum number of levels of a frame with this identifier, kind and DLC. Intermission is not
+    /// included.
     pub fn longest_wire(&self, id: Id, remote: bool, dlc: u8) -> u16
         requires { dlc < 16 }
         ensures longest { IsLongestWire id remote dlc result }

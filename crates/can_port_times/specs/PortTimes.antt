@@ -1,5 +1,4 @@
--- The state and actions of a port in each bit time of a scenario's run. (docs/FORMATS.md, "`canbit run`"; docs/BUS.md,
--- "A bit time")
+-- What a port does in each bit time of a scenario's run. (docs/FORMATS.md, "`canbit run`"; docs/BUS.md, "A bit time")
 use Rattle.std.specs.Prelude.{ℕ, ◌≡◌, ◌<◌, ◌==◌, ◌+◌, ◌*◌, ◌&&◌, if◌then◌else◌, List, [], ◌∷◌, drop, get_or, length, take, Option, Some, None, slice_get}
 use Rattle.std.specs.List.{list_any}
 use Rattle.can_frame.specs.declared.level.Level.{Level}

@@ -4,7 +4,7 @@ use Rattle.std.specs.Prelude.{ℕ, Bool, false, ◌==◌, ◌&&◌, not, List, O
 use Rattle.std.specs.Io.KnownBytes.{Consumes, Appends}
 
 -- The call read the input from its reader, its writer took the output, and `Related` is true of both. What the reader
--- has left and what the writer has taken are given before and after the call. If they are unknown, the input or the
+-- has left and what the writer contains are given before and after the call. If they are unknown, the input or the
 -- output may be any.
 pub record Told {R W : Type 0}
     (remaining : R → Option (List ℕ)) (before after : R)

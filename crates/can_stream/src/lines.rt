@@ -50,9 +50,9 @@ impl<const KEPT: usize> LineReader<KEPT> {
         self.inbox.place()
     }
 
-    /// Reads the next line, and returns `Ok(true)` if its end was found. If the source ends before that, the
-    /// result is `Ok(false)`, otherwise the `Err`. Then the line has the bytes that were read of it, maybe
-    /// none.
+    /// Reads the next line, and returns `Ok(true)` if its end was found. If the source ends or an error
+    /// occurs before that, the result is `Ok(false)` or the error. Then the line has the bytes that were read
+    /// of it, maybe none.
     ///
     /// All buffered output is written to the sink before each read. If the sink fails, the result is `Write`.
     pub fn next_line<R: Source, W: Sink>(

@@ -8,7 +8,7 @@ use std::io::Write;
 
 /// A writer of bytes, with the contract of std's `Write`, that records whether a write failed.
 pub trait Sink {
-    /// The bytes that were written, if they are known.
+    /// The bytes that the writer contains, if they are known.
     ghost contents: { Self → Option (List ℕ) };
 
     /// Whether some write has returned an `Err`, or `Ok(0)` for a slice that is not empty.
@@ -48,7 +48,7 @@ impl<W> ToWrite<W> {
         }
     }
 
-    /// Returns the writer.
+    /// Returns the wrapped writer.
     pub fn into_inner(self) -> W
         ensures { result ≡ wrapped_writer self }
     {

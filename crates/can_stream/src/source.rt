@@ -59,7 +59,7 @@ impl<R> FromRead<R> {
         }
     }
 
-    /// Returns the reader, with what it has left.
+    /// Returns the wrapped reader, with what it has left.
     pub fn into_inner(self) -> R
         ensures { result ≡ wrapped_reader self }
     {

@@ -22,8 +22,7 @@ pub fn one_check()
     one_text_a_frame();
 }
 
-/// The levels of a trace contain exactly one list of frames and faults, and each input has exactly one
-/// full output.
+/// A trace contains exactly one list of frames and faults, and each input has exactly one full output.
 pub fn one_decoding()
     ensures some { (place : ℕ) (levels : List Bit) → (found : List Findings) × Finds place levels found }
     ensures only { (place : ℕ) (levels : List Bit) (f g : List Findings) → Finds place levels f → Finds place levels g → f ≡ g }

@@ -29,8 +29,8 @@ const FILLING: u128 = 0b101_0101;
 /// The digits after the stuffed part: CRC delimiter, ACK slot, ACK delimiter and end of frame.
 const TAIL: [u8; 10] = *b"1111111111";
 
-/// Writes the digits of the levels that the transmitter of a frame drives, and returns their start and end in the
-/// array. The bytes before the start and from the end on have no meaning.
+/// Writes the digits of the levels that the transmitter of a frame drives. Returns their start and end in the array.
+/// The bytes before the start and from the end on have no meaning.
 pub fn driven_digits(frame: &Frame, digits: &mut [u8; DIGITS_ROOM]) -> (usize, usize)
     ensures digits { slice_range digits.new result.0 result.1 ≡ map digit_of (driven frame.now) }
     ensures order { result.0 ≤ result.1 }

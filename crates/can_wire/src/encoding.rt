@@ -9,8 +9,8 @@ use crate::stuff_steps::LONGEST_WIRE;
 use arrayvec::ArrayVec;
 use can_frame::{Frame, Level};
 
-/// Returns the levels of a frame as its transmitter drives them, one for each bit time, from the start
-/// of frame to the end of frame. (Bosch CAN 2.0 part B, section 3.2.1)
+/// Returns the levels that the transmitter of a frame drives, one for each bit time. They begin with
+/// the start of frame and end with the end of frame. (Bosch CAN 2.0 part B, section 3.2.1)
 pub fn encode(frame: &Frame) -> ArrayVec<Level, 157>
     ensures levels { result.items ≡ driven frame.now }
     ensures spelled { IsSpelling (head frame.now) Recessive Recessive result.items }

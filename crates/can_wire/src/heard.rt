@@ -69,8 +69,8 @@ impl Eq for Heard {
 }
 
 impl Heard {
-    /// Returns the frame as received, or `None` if a standard frame would have a dominant SRR or a
-    /// recessive r1.
+    /// Returns the frame as received with these parts. `None` if a standard frame would have a
+    /// dominant SRR or a recessive r1.
     pub fn new(
         frame: Frame,
         srr: Level,

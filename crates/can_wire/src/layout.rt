@@ -17,8 +17,8 @@ const STANDARD_FORMAT: Level = Level::Dominant;
 /// The IDE bit of an extended frame.
 const EXTENDED_FORMAT: Level = Level::Recessive;
 
-/// Returns the unstuffed levels of a frame as received, from the start of frame to the end of the
-/// CRC sequence.
+/// Returns the unstuffed levels of a frame as received, from the start of frame on, CRC sequence
+/// included.
 pub fn head_and_crc<B: FrameBits>(heard: &Heard) -> B
     ensures levels { B.levels result ≡ heard_head heard.now ++ crc_of (heard_head heard.now) }
     ensures whole { IsHeard heard.now }
@@ -29,8 +29,7 @@ pub fn head_and_crc<B: FrameBits>(heard: &Heard) -> B
     levels
 }
 
-/// Returns the unstuffed levels of a frame as received, from the start of frame to the end of the
-/// data.
+/// Returns the unstuffed levels of a frame as received, from the start of frame to the data.
 pub fn head<B: FrameBits>(heard: &Heard) -> B
     ensures levels { B.levels result ≡ heard_head heard.now }
     ensures room { length (B.levels result) ≤ 103 }

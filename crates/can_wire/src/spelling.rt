@@ -19,8 +19,9 @@ const DELIMITER: Level = Level::Recessive;
 /// The number of levels after the stuffed part.
 const TAIL_LEVELS: usize = 10;
 
-/// Returns the levels that encode a frame as received, one for each bit time, from the start of frame to the end of
-/// frame. The CRC sequence is computed over the levels as received. (Bosch CAN 2.0 part B, section 3.2.1)
+/// Returns the levels that encode a frame as received, one for each bit time. They begin with the start of frame and
+/// end with the end of frame. The CRC sequence is computed over the levels as received. (Bosch CAN 2.0 part B, section
+/// 3.2.1)
 pub fn respell(heard: &Heard) -> ArrayVec<Level, 157>
     ensures spells { Spells heard.now result.items }
     ensures only { (w : List Bit) → Spells heard.now w → w ≡ result.items }

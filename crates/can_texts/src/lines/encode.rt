@@ -15,8 +15,8 @@ use can_wire::{DIGITS_ROOM, driven_digits};
 /// How many bytes of a line are kept: one more than the longest frame text has.
 const KEPT: usize = 33;
 
-/// Reads lines of frame text, and writes for each a line with the levels that the frame's transmitter
-/// drives, as `0` and `1`.
+/// Reads lines of frame text, and writes for each the levels that the frame's transmitter drives. An
+/// output line has a `0` or `1` for each level.
 ///
 /// A line ends with 0x0a; the last input line may lack it, and empty input has no lines. Lines may have
 /// any length. The call allocates no memory. Before the call the reader must not have failed or ended,

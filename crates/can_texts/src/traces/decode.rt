@@ -18,15 +18,15 @@ use crate::traces::trace::Trace;
 use can_frame::Level;
 use can_stream::{Inbox, Outbox, Sink, Source, TraceFault};
 
-/// Reads a trace, `0` and `1` for its levels, and writes a line for each frame and each fault in it. Spaces, 0x0a
+/// Reads a trace, and writes a line for each frame and each fault in it. Its levels are `0` and `1`. Spaces, 0x0a
 /// and 0x0d are skipped. (Bosch CAN 2.0 part B, sections 3.2.1, 3.2.5 and 7.1)
 ///
 /// Places count levels from 0. Between frames recessive levels are skipped. The line of a frame has:
 ///
 /// - the place at which it begins, and its text;
 /// - ` ack` or ` noack`;
-/// - if true: ` srr0` (SRR was dominant), ` r1` (r1 was recessive), ` r0` (r0 was recessive), ` eof0` (the last
-///   level of the end of frame was dominant).
+/// - those of these words that apply: ` srr0` (SRR was dominant), ` r1` (r1 was recessive), ` r0` (r0 was
+///   recessive), ` eof0` (the last level of the end of frame was dominant).
 ///
 /// If no frame begins at a dominant level, the line has the place, ` fault `, the kind, ` at ` and the place of
 /// the fault. The search for a frame continues after the first eleven recessive levels in a row from the fault on.

@@ -16,8 +16,8 @@ pub(crate) struct SearchRun {
     pub(crate) row: u8,
 }
 
-/// Takes levels from the front of these digits, after `row` recessive ones in a row. It stops before the end of
-/// the idle row, and before a byte that is not a digit.
+/// Takes levels from the front of these digits, after `row` recessive ones in a row. It stops before the last
+/// level of the idle row, and before a byte that is not a digit.
 pub(crate) fn search(digits: &[u8], row: u8) -> SearchRun
     ensures within { result.taken ≤ length digits.now }
     ensures searched { Searches row (take result.taken digits.now) result.row }
