@@ -1,5 +1,5 @@
--- The levels that still follow in a frame's stuffed part, by the last level and its run, and by the CRC sequence that the
--- frame has if only dominant data follow. (Bosch CAN 2.0 part B, sections 3.2.1 and 6)
+-- The levels that still follow in a frame's stuffed part. They depend on the last level and its run, and on the CRC
+-- sequence that the frame has if only dominant data follow. (Bosch CAN 2.0 part B, sections 3.2.1 and 6)
 use Rattle.std.proofs.Props.{props}
 use Rattle.std.specs.Prelude.{ℕ, zero, suc, ◌≡◌, ◌+◌, ◌*◌, ◌^◌, ◌<◌, ◌==◌, max, if◌then◌else◌, List, ◌∷◌, ◌++◌, length, replicate, slice_get, Some}
 use Rattle.can_frame.specs.declared.level.Level.{Level}

@@ -8,7 +8,7 @@ ghost use Rattle.can_longest.specs.ToCome.{next_last, next_run, wire_levels};
 use can_frame::Level;
 use can_wire::{LONGEST_RUN, run_after};
 
-/// What levels leave: the last one, its run, and their number.
+/// The last level, its run, and the number of levels so far.
 #[derive(Clone, Copy)]
 pub(crate) struct Heard {
     /// The last level.

@@ -122,7 +122,7 @@ impl LongestWires {
 #[derive(Clone, Copy)]
 struct Chosen {
     octet: u8,
-    /// The levels with it.
+    /// The levels so far, this byte included.
     begun: Begun,
 }
 

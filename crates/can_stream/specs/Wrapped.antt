@@ -3,6 +3,7 @@ use Rattle.std.specs.Prelude.{Bool}
 use Rattle.can_stream.specs.declared.source.FromRead.{FromRead}
 use Rattle.can_stream.specs.declared.sink.ToWrite.{ToWrite}
 
+-- the reader that is wrapped
 abbrev pub wrapped_reader : {R : Type 0} → FromRead R → R
 wrapped_reader s = s.inner
 
@@ -14,6 +15,7 @@ read_failed s = s.failed
 abbrev pub read_ended : {R : Type 0} → FromRead R → Bool
 read_ended s = s.ended
 
+-- the writer that is wrapped
 abbrev pub wrapped_writer : {W : Type 0} → ToWrite W → W
 wrapped_writer s = s.inner
 

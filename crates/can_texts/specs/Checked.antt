@@ -178,8 +178,8 @@ BeginsChecking reader_ended input output =
     BeginsAnswer ChecksLines reader_ended input output
     ⊎ BeginsTotal reader_ended input output
 
--- Of the input lines that are known to be complete, the one with this number, from 1, is the first bad one, and its
--- frame text has this fault. The output is that for the lines before it.
+-- The input line with this number, from 1, is the first bad one of those that are known to be complete. Its frame text
+-- has this fault. The output is that for the lines before it.
 abbrev pub IsFirstBadVectorLine : ℕ → TextFault → Bool → List ℕ → List ℕ → Type 0
 IsFirstBadVectorLine number fault = StopsAtLine ChecksLines (IsBadVectorLine fault) number
 

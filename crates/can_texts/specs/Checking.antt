@@ -7,6 +7,7 @@ use Rattle.can_texts.specs.declared.lines.vector.Verdict.{Verdict}
 use Rattle.can_stream.specs.Outbox.{PassesOn, TakesFront}
 use Rattle.can_texts.specs.Checked.{passed_by, vector_verdict_line, BeginsChecking, ChecksEnded, ChecksTooLong, IsBadLevelByte, IsBadVectorLine, IsFirstBadByte, IsFirstBadVectorLine, IsVectorVerdict}
 
+-- whether the fault is a bad byte
 abbrev pub is_bad_byte : TraceFault → Bool
 is_bad_byte (BadByte place) = true
 is_bad_byte Read = false

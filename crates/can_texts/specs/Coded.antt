@@ -42,7 +42,7 @@ BeginsEncoding = BeginsAnswer Codes
 abbrev pub IsBadFrameLine : TextFault → List ℕ → Type 0
 IsBadFrameLine fault line = (¬ IsFrameText line) × IsTextFault line fault
 
--- Of the input lines that are known to be complete, the one with this number, from 1, is the first that is not a frame
--- text, and it has this fault. The output is that for the lines before it.
+-- The input line with this number, from 1, is the first of those known to be complete that is not a frame text. It has
+-- this fault. The output is that for the lines before it.
 abbrev pub IsFirstBadLine : ℕ → TextFault → Bool → List ℕ → List ℕ → Type 0
 IsFirstBadLine number fault = StopsAtLine Codes (IsBadFrameLine fault) number

@@ -16,6 +16,7 @@ use Rattle.can_trace.specs.ScenarioOffers.{scenario_offers}
 abbrev pub queues : Scenario → List (List Parts)
 queues s = map frames_of_queue s.ports.items
 
+-- the frames of all ports
 abbrev pub all_frames : List (List Parts) → List Parts
 all_frames queues = flat_map (λ queue. queue) queues
 

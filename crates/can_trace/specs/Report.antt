@@ -28,6 +28,7 @@ made_port plan =
     port_holding plan.overloads
     (fresh_port (if plan.joins then joining else idle) (length plan.queue.items) plan.log_room)
 
+-- the bus of the ports as they are created
 abbrev pub made_bus : Scenario → BusState
 made_bus s = new_bus (map made_port s.ports.items)
 
@@ -39,6 +40,7 @@ frames_of_queue plan = map (λ timed. timed.frame) plan.queue.items
 abbrev pub waiting_port : PortPlan → PortState
 waiting_port plan = all_offered (frames_of_queue plan) (made_port plan)
 
+-- the bus whose ports have all their frames pending
 abbrev pub waiting_bus : Scenario → BusState
 waiting_bus s = new_bus (map waiting_port s.ports.items)
 
@@ -48,6 +50,7 @@ abbrev pub ended_with : List Hit → Scenario → BusState
 ended_with [] s = played (scenario_offers s) s.bits (made_bus s)
 ended_with (hit ∷ hits) s = bus_run (hit ∷ hits) s.bits (waiting_bus s)
 
+-- the bus at the end of a scenario's run
 abbrev pub ended_bus : Scenario → BusState
 ended_bus s = ended_with s.hits.items s
 
@@ -75,6 +78,7 @@ pub record PortReport : Type 0 where
   pub missed : ℕ
   pub log : List Entry
 
+-- the report of a port in this state
 abbrev pub reported : PortState → PortReport
 reported p = record {
   state = state_of p.mac.counters;

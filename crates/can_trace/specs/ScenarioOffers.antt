@@ -33,6 +33,7 @@ put_in_time offer (next ∷ offers) =
     if nat_le offer.time next.time then offer ∷ next ∷ offers
     else next ∷ put_in_time offer offers
 
+-- the offers in the order of time
 unfoldable pub in_time : List Offer → List Offer
 in_time [] = []
 in_time (offer ∷ offers) = put_in_time offer (in_time offers)

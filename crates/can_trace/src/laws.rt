@@ -18,8 +18,8 @@ pub fn one_order_of_offers()
     ensures same { (offers : List Offered) → IsPermutation (in_time offers) offers }
 {}
 
-/// A scenario whose frames all have time 0, as in version 1, runs like a bus at whose ports they are pending
-/// at the beginning, with or without injected bit errors.
+/// A scenario whose frames all have time 0 runs like a bus at whose ports they are pending at the beginning.
+/// This holds with and without injected bit errors. All scenarios of version 1 are of this kind.
 pub fn frames_of_time_0_wait()
     ensures { (s : Planned) → All AreFirst s.ports.items → report s ≡ waiting_report s }
 {}

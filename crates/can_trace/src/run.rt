@@ -30,8 +30,8 @@ use std::alloc::{AllocError, Global};
 ///
 /// - `bits` with the number of bit times;
 /// - the recorded levels as digits;
-/// - for each port a line `port` with its number, its state `active`, `passive` or `off`, its error counters
-///   after `tec` and `rec`, and after `missed` the number of entries that did not fit into its log;
+/// - for each port a line `port` with its number and its state, `active`, `passive` or `off`; after `tec` and
+///   `rec` its error counters, after `missed` the number of entries that did not fit into its log;
 /// - after it, for each entry of the port's log, two spaces, `sent` or `took`, and the frame's text.
 ///
 /// The writer must not have failed before the call. All memory is allocated before the first byte is written:

@@ -22,7 +22,7 @@ pub const DIGITS_ROOM: usize = 168;
 /// The number of digits that the first of two lookups gives.
 const OCTET: usize = 8;
 
-/// Levels that fill up a number of levels to whole bytes, before the start of frame: its lowest bits are used. No two
+/// Levels before the start of frame that fill up a number of levels to whole bytes. Its lowest bits are used. No two
 /// neighbouring ones are equal, and the last differs from the start of frame, so they cause no stuff bit.
 const FILLING: u128 = 0b101_0101;
 
