@@ -53,7 +53,7 @@ IsCodeFault-none = record {
   kind = refl;
 }
 
--- where one level more makes a list that begins no shape, the fault is at that level
+-- if one more level makes a list that begins no shape, the fault is at that level
 module _ (b : List Level) (x : Level) (t : List Level) (sound : IsSound b) (broken : BeginsShape (b ++ x ∷ []) → ⊥) where
   next_broken : BeginsShape (take (length b + 1) (b ++ x ∷ t)) → ⊥
   next_broken begins = broken (subst BeginsShape (take_next b x t) begins)
@@ -104,9 +104,9 @@ module _ (b : List Level) (f : FrontParts) (x : Level) (t : List Level) (r : IsF
         );
       }
 
--- a complete stuffed part stands at the front
+-- the levels begin with a complete stuffed part
 module _ (u b : List Level) (part : IsPart u b) where
-  -- its check sequence is wrong
+  -- its CRC sequence is wrong
   pub IsCodeFault-crc : (t : List Level) → (IsCrc (head_of u) (check_of u) → ⊥) → IsCodeFault (b ++ t) (record { kind = Crc; place = length b - 1 })
   IsCodeFault-crc t wrong =
       let l = b ++ t in

@@ -1,4 +1,4 @@
--- Levels that are made anew from numbers of them.
+-- Levels that are copied by means of numbers of them.
 use Rattle.std.proofs.Common.{◌≡◌, ℕ, ◌+◌, ◌<◌, List, [], ◌∷◌, ◌++◌, length, take, drop, refl, sym, ap, ◌∙◌, arith, append_assoc, append-nil}
 use Rattle.std.proofs.lemmas.List.{take-append-drop}
 use Rattle.can_frame.specs.declared.level.Level.{Level}

@@ -1,4 +1,5 @@
--- What a decoder has heard, level by level: it grows with each level, ends with the last one, and shows the fault where there is one.
+-- What a decoder has received, level by level: it grows with each level, ends with the last one, and shows the fault if
+-- there is one.
 use Rattle.std.proofs.Common.{◌≡◌, ◌≢◌, ℕ, ◌-◌, ◌<◌, Bool, true, false, Option, Some, None, List, [], ◌∷◌, ◌++◌, length, take, drop, refl, sym, ◌∙◌, ap, subst, arith, append_assoc, length-append, inl, inr}
 use Rattle.std.specs.Option.{option_and_then}
 use Rattle.std.proofs.Math.Dec.{eqb}
@@ -36,7 +37,7 @@ HasHeard-begin d first none = record {
   none = λ going. none;
 }
 
--- levels heard behind others
+-- levels received after others
 pub heard_levels-append : (xs ys : List Level) (f g : FrontParts) → heard_levels f xs ≡ Some g → heard_levels f (xs ++ ys) ≡ heard_levels g ys
 heard_levels-append [] ys f g heard =
     let one : f ≡ g = cc in
@@ -66,7 +67,7 @@ module _ (d : DecoderParts) (l : List Level) (h : HasHeard d l) where
         let parts = and_parts (eqb d.front.run 5) (same x d.front.last) error in
         IsCodeFault-stuff l d.front x rest front_of_all (eqb-true d.front.run 5 parts.0) parts.1
 
-    -- levels of the stuffed part, up to its end only where its check sequence agrees
+    -- levels of the stuffed part, to its end only if its CRC sequence is right
     pub HasHeard-run : (xs : List Level) (e : DecoderParts) → heard_levels d.front xs ≡ Some e.front → e.behind ≡ d.behind → (next_place e.front ≡ CrcDelimiter → IsCrc (head_of e.front.unstuffed) (check_of e.front.unstuffed))
         → HasHeard e (l ++ xs)
     HasHeard-run xs e next same_behind agrees =
@@ -91,7 +92,7 @@ module _ (d : DecoderParts) (l : List Level) (h : HasHeard d l) where
       longer : IsFrontOf (l ++ x ∷ []) (heard_level d.front x)
       longer = IsFrontOf-heard_level l d.front front_of_all x going no_error
 
-      -- it completes a stuffed part whose check sequence is wrong
+      -- it completes a stuffed part whose CRC sequence is wrong
       pub HasHeard-crc : (rest : List Level) → next_place (heard_level d.front x) ≡ CrcDelimiter → (IsCrc (head_of (heard_level d.front x).unstuffed) (check_of (heard_level d.front x).unstuffed) → ⊥)
           → IsCodeFault (l ++ x ∷ rest) (record { kind = Crc; place = length l })
       HasHeard-crc rest ended wrong =
@@ -178,7 +179,7 @@ module _ (d : DecoderParts) (l : List Level) (h : HasHeard d l) where
     | inr going ↦ IsCodeFault-short l d.front (front_of_all going) going
   ]
 
--- what a test for the CRC delimiter tells
+-- what follows from a test for the CRC delimiter
 pub is_ended : (p : Place) → sameb the_type p CrcDelimiter ≡ true → p ≡ CrcDelimiter
 is_ended StuffBit h = cc
 is_ended Bit h = cc

@@ -21,7 +21,7 @@ pub recessive_first : (l : List Level) (x : Level) (rest : List Level) → l ≡
 recessive_first l Recessive rest whole h = subst (λ t. IsCodeFault t (record { kind = NoStartOfFrame; place = 0 })) (sym whole) (IsCodeFault-no_start rest)
 recessive_first l Dominant rest whole h = cc
 
--- behind the start of frame
+-- after the start of frame
 pub start_and_rest : (l : List Level) (x : Level) (rest : List Level) → l ≡ x ∷ rest → is_recessive x ≡ false → l ≡ Dominant ∷ rest
 start_and_rest l Dominant rest whole h = whole
 start_and_rest l Recessive rest whole h = cc
@@ -31,11 +31,11 @@ module _ (rest : List Level) (i : ℕ) where
   abbrev front : List Level
   front = Dominant ∷ take i rest
 
-  -- nothing stands behind them
+  -- nothing follows them
   pub all_heard : (l : List Level) → l ≡ Dominant ∷ rest → length rest ≤ i → front ≡ l
   all_heard l behind_start past = ap (λ t. Dominant ∷ t) (take_all i rest past) ∙ sym behind_start
 
-  -- x stands behind them
+  -- x follows them
   module _ (x : Level) (within : i < length rest) (x_is : x ≡ get_or rest i Dominant) where
     pub front_longer : front ++ x ∷ [] ≡ Dominant ∷ take (i + 1) rest
     front_longer = ap (λ y. front ++ y ∷ []) x_is ∙ ap (λ t. Dominant ∷ t) (sym (take_more rest i Dominant within))

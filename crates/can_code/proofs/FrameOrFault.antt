@@ -21,7 +21,7 @@ use Rattle.can_code.proofs.HeardLevels.{ended_or_going}
 use Rattle.can_code.proofs.TailLemmas.{ack_slot_heard, recessive_heard, dominant_breaks}
 use Rattle.can_code.proofs.DecoderLemmas.{HasHeard-begin, HasHeard-stuff, HasHeard-crc, HasHeard-level, HasHeard-form, HasHeard-behind, HasHeard-last, HasHeard-short}
 
--- ---- check sequences
+-- ---- CRC sequences
 
 same_levels : (a b : List Level) → (a ≡ b) ⊎ (a ≢ b)
 same_levels [] [] = inl refl
@@ -38,7 +38,7 @@ right_or_wrong b c = elim (same_levels c (crc_of b)) [
   | inr other ↦ inr (λ is. other (IsCrc-only b c is))
 ]
 
--- ---- the levels behind a stuffed part
+-- ---- the levels after a stuffed part
 
 same_fronts : (a last : Level) (k : ℕ) → k < 10 → take k (tail a last) ≡ take k (tail a Recessive)
 same_fronts a last zero few = refl
@@ -136,7 +136,7 @@ pub record BeginsSpelled (levels : List Level) : Type 0 where
   pub spells : Spells h w
   pub whole : levels ≡ w ++ rest
 
--- the fault of the levels shows behind a front of them
+-- the fault of the levels shows after a prefix of them
 pub record HasFault (levels : List Level) : Type 0 where
   pub kind : CodeFaultKind
   pub front : List Level

@@ -1,4 +1,4 @@
--- A front stays one with each level that is heard, and its levels tell how long it gets.
+-- A front stays one with each level that is received, and its levels determine how long it gets.
 use Rattle.std.proofs.Common.{◌≡◌, ◌≢◌, ℕ, ◌+◌, ◌<◌, ◌≤◌, Bool, true, false, Option, Some, None, List, [], ◌∷◌, ◌++◌, length, take, refl, sym, ◌∙◌, ap, arith, length-append, cond, ◌⊎◌, inl, inr}
 use Rattle.std.proofs.Math.Dec.{eqb}
 use Rattle.std.proofs.lemmas.Bool.{cases_lt, cond-true, cond_both, eq-eqb, ne_eqb, eqb-true, eqb-false, cond-false}
@@ -22,12 +22,12 @@ heard_level-longer f x =
     cond_both {A = FrontParts} (eqb f.run 5) _ _ (λ g. length f.unstuffed ≤ length g.unstuffed) (λ e. omega arith)
     (λ e. let more = length-append f.unstuffed (x ∷ []) in omega (arith, more))
 
--- the length that levels tell decides whether they have their whole check sequence
+-- the length that levels determine decides whether they have their whole CRC sequence
 pub has_check-told : (u : List Level) (told : Option ℕ) → TellsLength u told → has_check u ≡ option_eq eqb told (Some (length u))
 has_check-told u None h = ne_eqb (frame_len u) (length u) (λ e. omega (arith, frame_len_least u))
 has_check-told u (Some n) h = ap (λ t. eqb t (length u)) (sym h.1)
 
--- a length that is told stays
+-- a length that is determined stays
 pub TellsLength-push : (u : List Level) (x : Level) (told : Option ℕ) → is_some told ≡ true → TellsLength u told → TellsLength (u ++ x ∷ []) told
 TellsLength-push u x None some h = cc
 TellsLength-push u x (Some n) some h =
@@ -41,7 +41,8 @@ data_place_or : (extended : Bool) → (data_place extended ≡ data_place false)
 data_place_or true = inr refl
 data_place_or false = inl refl
 
--- a length that is not told is not told by one level more, where no data length code ends with it
+-- a length that is not determined is not determined by one more level, if no data length code ends
+-- with it
 pub TellsLength-wait : (u : List Level) (x : Level) (told : Option ℕ) → is_some told ≡ false → TellsLength u told
     → (((length (u ++ x ∷ []) ≡ data_place false) ⊎ (length (u ++ x ∷ []) ≡ data_place true)) → ⊥) → TellsLength (u ++ x ∷ []) told
 TellsLength-wait u x (Some n) none h no_end = cc
@@ -73,7 +74,7 @@ IsFront-start f h = first f.unstuffed h.start
     first [] e = refl
     first (y ∷ u) e = cc
 
--- unstuffed levels with their whole check sequence are complete
+-- unstuffed levels with their whole CRC sequence are complete
 pub IsFront-complete : (f : FrontParts) → IsFront f → has_check f.unstuffed ≡ true → IsComplete f.unstuffed
 IsFront-complete f h e = record { start = IsFront-start f h; whole = sym (eqb-true (frame_len f.unstuffed) (length f.unstuffed) e) }
 
@@ -86,7 +87,7 @@ module _ (f : FrontParts) (h : IsFront f) where
     other_len : length f.unstuffed ≢ frame_len f.unstuffed
     other_len = λ e. eqb-false (frame_len f.unstuffed) (length f.unstuffed) partial (sym e)
 
-    -- there is room for another level
+    -- there is space for another level
     pub IsFront-room : length f.unstuffed < 118
     IsFront-room =
         let other : length f.unstuffed ≢ frame_len f.unstuffed = other_len in
@@ -104,7 +105,7 @@ module _ (f : FrontParts) (h : IsFront f) where
           short = omega (arith, h.short, run_after-le f.last f.run x);
         }
 
--- what the next place tells of a front, and what tells the next place
+-- what the next place determines of a front, and what determines the next place
 module _ (f : FrontParts) where
   pub next_place-ended : next_place f ≡ CrcDelimiter → (f.run ≢ 5) × (has_check f.unstuffed ≡ true)
   next_place-ended h = by_tests (eqb f.run 5) (has_check f.unstuffed) refl refl h

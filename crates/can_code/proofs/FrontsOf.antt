@@ -49,11 +49,11 @@ module _ (b : List Level) (f : FrontParts) (r : IsFrontOf b f) where
       nonempty [] e = absurd (omega (arith, e.run_is, r.front.some))
       nonempty (x ∷ b) e = omega arith
 
-  -- where no stuff bit is due the levels are the stuffed list of the unstuffed ones
+  -- if no stuff bit is due, the levels are the stuffed list of the unstuffed ones
   pub IsFrontOf-stuffs : f.run ≢ 5 → Stuffs f.unstuffed b
   IsFrontOf-stuffs other = Stuffs-from f.unstuffed b r.inserts (not_due other)
 
-  -- where the stuffed part has ended it is complete
+  -- if the stuffed part has ended, it is complete
   pub IsFrontOf-part : next_place f ≡ CrcDelimiter → IsPart f.unstuffed b
   IsFrontOf-part ended =
       let h = next_place-ended f ended in record {
@@ -136,7 +136,7 @@ module _ (b : List Level) (f : FrontParts) (r : IsFrontOf b f) where
         (f.unstuffed ++ missing, more.0, more.1)
   ]
 
-  -- no complete stuffed part stands at the front of levels whose stuffed part has not ended
+  -- levels whose stuffed part has not ended do not begin with a complete stuffed part
   pub IsFrontOf-no_part : next_place f ≢ CrcDelimiter → (w s y : List Level) → IsPart w s → s ++ y ≡ b → ⊥
   IsFrontOf-no_part going w s y part joined =
       let more = IsFrontOf-completes in
@@ -149,7 +149,7 @@ module _ (b : List Level) (f : FrontParts) (r : IsFrontOf b f) where
       let other : f.run ≢ 5 = λ five. both_ways (is_due b) stuffs.end (due five) in
       going (next_place-complete f other (subst IsComplete (sym stuffs.rest ∙ r.inserts.rest) part.complete))
 
-  -- nor where a stuff place repeats the level before it
+  -- nor if a stuff bit has the level of the bit before it
   pub IsFrontOf-no_part_repeated : (x : Level) → f.run ≡ 5 → same x f.last ≡ true → (w s y z : List Level) → IsPart w s → s ++ y ≡ b ++ x ∷ z → ⊥
   IsFrontOf-no_part_repeated x five repeated w s y z part joined = elim (cases_lt (length b) (length s)) [
     | inl longer ↦

@@ -1,4 +1,4 @@
--- Levels heard one by one give a stuffed part's unstuffed levels, and end where it ends.
+-- Levels received one by one give a stuffed part's unstuffed levels, and end where it ends.
 use Rattle.std.proofs.Common.{◌≡◌, ◌≢◌, Bool, true, false, ◌&&◌, Option, Some, None, Err, Ok, Result, List, [], ◌∷◌, ◌++◌, length, refl, sym, ◌∙◌, ap, subst, arith, append_assoc, length-append, ◌⊎◌, inl, inr, cond}
 use Rattle.std.specs.Option.{option_and_then}
 use Rattle.std.specs.Result.{is_err, OnOk}
@@ -14,7 +14,7 @@ use Rattle.can_code.proofs.StuffedParts.{IsPart-once}
 use Rattle.can_code.proofs.FrontsOf.{IsFrontOf, IsFrontOf-part, IsFrontOf-heard_level, IsFrontOf-no_part, IsFrontOf-no_part_repeated}
 use Rattle.can_wire.specs.Layout.{IsPart}
 
--- a level that is no wrong stuff bit, where the stuffed part has not ended
+-- a level that is not a wrong stuff bit, if the stuffed part has not ended
 pub hear_at-going : (f : FrontParts) (x : Level) (p : Place) → p ≢ CrcDelimiter → is_stuff_error f x ≡ false → hear_at p f x ≡ Some (heard_level f x)
 hear_at-going f x StuffBit going no_error = cond-false (is_stuff_error f x) None (Some (heard_level f x)) no_error
 hear_at-going f x Bit going no_error = refl
@@ -55,7 +55,7 @@ IsFrontOf-goes_on p f u x xs r part =
     IsFrontOf-no_part_repeated p f r x (eqb-true f.run 5 both.0) both.1 u (p ++ x ∷ xs) [] xs part (append-nil (p ++ x ∷ xs))) in
     (going, no_error)
 
--- the levels xs behind p complete a stuffed part
+-- the levels xs after p complete a stuffed part
 pub heard_levels-part : (xs p u : List Level) (f : FrontParts) → IsFrontOf p f → IsPart u (p ++ xs) → (g : FrontParts) × (heard_levels f xs ≡ Some g) × (g.unstuffed ≡ u) × (next_place g ≡ CrcDelimiter)
 heard_levels-part [] p u f r part =
     let mine = subst (IsPart u) (append-nil p) part in
@@ -85,7 +85,7 @@ heard_levels-front (x ∷ xs) p f g r heard =
         let front = subst (IsFrontOf (p ++ x ∷ [])) (sym level.2) (IsFrontOf-heard_level p f r x level.0 level.1) in
         subst (λ b. IsFrontOf b g) (append_assoc p (x ∷ []) xs) (go_on h front rest)
 
--- what holds of an `Ok`, where it is one
+-- what is true of an `Ok`, if it is one
 pub at_ok : {T E P : Type 0} (r : Result T E) → is_err r ≡ false → OnOk r P → P
 at_ok (Ok x) e p = p
 at_ok (Err x) e p = cc

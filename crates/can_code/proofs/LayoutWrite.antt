@@ -1,4 +1,4 @@
--- Complete unstuffed levels are the levels of what they tell.
+-- Complete unstuffed levels are the levels of the frame that they determine.
 use Rattle.std.proofs.Common.{◌≡◌, ℕ, ◌+◌, ◌-◌, ◌*◌, ◌/◌, ◌^◌, ◌≤◌, Bool, true, false, cond, List, [], ◌∷◌, ◌++◌, length, drop, refl, sym, ◌∙◌, ap, arith, append_assoc, length-append, inl, inr}
 use Rattle.std.specs.List.{flat_map}
 use Rattle.std.proofs.lemmas.Bool.{cond-false, cases_Bool}
@@ -32,7 +32,7 @@ identifier_small u = by_kind (extended_of u)
         ∙ ap (λ t. 11 + t) (length-filled 18 (drop 14 u)) in
         omega (arith, number_from-lt whole, ap (λ t. 2 ^ t) size)
 
--- what levels tell is a frame
+-- what levels determine is a frame
 pub IsFrame-frame_of : (u : List Level) → IsFrame (frame_of u)
 unfolding frame_of
 IsFrame-frame_of u =
@@ -45,7 +45,7 @@ IsFrame-frame_of u =
       small = bytes_from-small n rest;
     }
 
--- what levels tell is what can be heard
+-- what levels determine can be received
 pub IsHeard-heard_of : (u : List Level) (acked : Bool) (last : Level) → IsHeard (heard_of u acked last)
 unfolding heard_of frame_of
 IsHeard-heard_of u acked last = record {
@@ -54,7 +54,7 @@ IsHeard-heard_of u acked last = record {
   r1 = λ standard. cond-false (extended_of u) (level_at u 33) Dominant standard;
 }
 
--- the data length code and the data, where the code stands at place p
+-- the data length code and the data, if the code is at place p
 data_at : List Level → (p count : ℕ) → List Level
 data_at u p count = bits_of 4 (number_from 0 (levels_at u p 4)) ++ flat_map (bits_of 8) (bytes_from count (drop (p + 4) u))
 
@@ -73,7 +73,7 @@ data_written u p count size =
     ∙ ap (λ t. bits_of 4 (number_from 0 code) ++ (bytes ++ drop t u)) last
     ∙ sym (append_assoc (bits_of 4 (number_from 0 code)) bytes (check_of u))
 
--- from the RTR bit at place r on: the two bits behind it, and the data
+-- from the RTR bit at place r on: the two bits after it, and the data
 control_written : (u : List Level) (r count : ℕ) → r + 22 + 8 * count ≡ length u
     → drop r u ≡ level_from (is_recessive (level_at u r)) ∷ level_at u (r + 1) ∷ level_at u (r + 2) ∷ (data_at u (r + 3) count ++ check_of u)
 control_written u r count size =
@@ -140,18 +140,18 @@ extended_written u acked last is extended =
     let size : 32 + 22 + 8 * count ≡ length u = omega (arith, rw extended at is.whole) in
     rw extended (extended_levels u count is.start (level_recessive (level_at u 13) extended) size)
 
--- complete levels are the head of what they tell, and then their check sequence
+-- complete levels are the head of what they determine, and then their CRC sequence
 pub heard_head-heard_of : (u : List Level) (acked : Bool) (last : Level) → IsComplete u → u ≡ heard_head (heard_of u acked last) ++ check_of u
 heard_head-heard_of u acked last is = elim (cases_Bool (extended_of u)) [
   | inl extended ↦ extended_written u acked last is extended
   | inr standard ↦ standard_written u acked last is standard
 ]
 
--- the check sequence has fifteen levels
+-- the CRC sequence has fifteen levels
 pub length-check_of : (u : List Level) → IsComplete u → length (check_of u) ≡ 15
 length-check_of u is = omega (arith, length-drop (length u - 15) u, is.whole, frame_len_ge u)
 
--- what stands before the check sequence is the head of what it tells
+-- the levels before the CRC sequence are the head of what they determine
 pub head_of-heard_head : (u : List Level) (acked : Bool) (last : Level) → IsComplete u → head_of u ≡ heard_head (heard_of u acked last)
 head_of-heard_head u acked last is =
     ap head_of (heard_head-heard_of u acked last is) ∙ head_of-append (heard_head (heard_of u acked last)) (check_of u) (length-check_of u is)

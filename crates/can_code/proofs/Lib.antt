@@ -1,10 +1,10 @@
--- complete unstuffed levels are the levels of what they tell
+-- complete unstuffed levels are the levels of the frame that they determine
 pub mod LayoutWrite
 -- the unstuffed levels of a frame that is sent are complete, and give it back
 pub mod UnstuffedLevels
 -- complete stuffed parts: none begins another
 pub mod StuffedParts
--- a front stays one with each level, and tells how long it gets
+-- a front stays one with each level, and determines how long it gets
 pub mod FrontLemmas
 -- the front that levels make, heard one by one
 pub mod FrontsOf
@@ -14,7 +14,7 @@ pub mod HeardLevels
 pub mod PartFronts
 -- the front that each beginning of a frame's stuffed part makes, and what its sender drives next
 pub mod WireFronts
--- arbitration, level by level: where two frames that are sent together part
+-- arbitration, level by level: the place at which two frames that are sent together differ
 pub mod WireOrder
 -- what each fault of levels takes
 pub mod CodeFaultLemmas
@@ -37,5 +37,5 @@ pub mod TailLemmas
 -- arbitration, level by level
 pub mod UnstuffedOrder
 pub mod StuffedOrder
--- levels made anew from numbers of them
+-- levels copied by means of numbers of them
 mod CopiedLevels

@@ -1,4 +1,4 @@
--- The front that each beginning of a stuffed part makes, and the level that stands next.
+-- The front that each prefix of a stuffed part makes, and the level that is next.
 use Rattle.std.proofs.Common.{◌≡◌, ◌≢◌, ℕ, ◌+◌, ◌<◌, ◌≤◌, false, ◌&&◌, Some, List, [], ◌∷◌, ◌++◌, length, take, drop, refl, sym, ◌∙◌, ap, subst, arith, append_assoc}
 use Rattle.std.specs.Option.{option_and_then}
 use Rattle.std.proofs.lemmas.List.{append-nil, take_more, take_all, drop_more, take_at, take-append-drop, length-take-le, get_or_at}
@@ -18,7 +18,7 @@ use Rattle.can_code.proofs.FrontLemmas.{next_place-complete}
 use Rattle.can_code.proofs.FrontsOf.{IsFrontOf, IsFrontOf-first_front, IsFrontOf-stuffs, IsFrontOf-heard_level}
 use Rattle.can_code.proofs.HeardLevels.{hear_at-going, IsFrontOf-goes_on}
 
--- the front that levels make behind another front
+-- the front that levels make after another front
 abbrev pub front_after : FrontParts → List Level → FrontParts
 front_after f [] = f
 front_after f (x ∷ xs) = front_after (heard_level f x) xs
@@ -92,7 +92,7 @@ module _ (u b : List Level) (part : IsPart u b) (o : ℕ) (some : 0 < o) where
         let whole = begins_unstuffed v u (take o b) (drop o b) part-front.inserts (subst (Stuffs u) (sym (take-append-drop o b)) part.stuffs) in
         ap (take (length v)) whole ∙ take_at v _ (length v) refl
 
-  -- where more levels follow
+  -- if more levels follow
   module _ (more : o < length b) where
     here : IsFrontOf (take o b) (front_made (take o b))
     here = part-front (omega arith)

@@ -15,7 +15,7 @@ use Rattle.can_wire.proofs.LayoutNumbers.{number_from-lt, number_from-append, nu
 use Rattle.can_wire.proofs.LayoutPlaces.{length-filled}
 use Rattle.can_wire.proofs.CrcBytes.{byte_at-place}
 
--- the IDE bit stands before the data
+-- the IDE bit comes before the data
 pub data_behind_ide : (extended : Bool) → 19 ≤ data_place extended
 data_behind_ide true = omega arith
 data_behind_ide false = omega arith
@@ -64,7 +64,7 @@ filled-split zero m u = ap (λ k. filled k u) (let same : 0 + m ≡ m = omega ar
 filled-split (suc n) m [] = ap (λ k. filled k []) (let up : suc n + m ≡ suc (n + m) = omega arith in up) ∙ ap (λ t. Dominant ∷ t) (filled-split n m [] ∙ ap (λ v. filled n [] ++ filled m v) (drop-nil n))
 filled-split (suc n) m (x ∷ u) = ap (λ k. filled k (x ∷ u)) (let up : suc n + m ≡ suc (n + m) = omega arith in up) ∙ ap (λ t. x ∷ t) (filled-split n m u)
 
--- the bytes of a number are those that its levels spell, whatever stands before them
+-- the bytes of a number are those of its levels, whatever precedes them
 bytes-number_from : (k h : ℕ) (u : List Level) → bytes_high_first k (number_from h (filled (8 * k) u)) ≡ bytes_from k u
 bytes-number_from zero h u = refl
 bytes-number_from (suc k) h u =

@@ -59,14 +59,14 @@ IsSound-open b f r going =
       checked = λ h check s rest part whole. absurd (IsFrontOf-no_part b f r going (heard_head h ++ check) s rest (IsPart-from h check s part) whole);
     }
 
--- what stands behind a complete stuffed part of a shape is a tail
+-- what follows a complete stuffed part of a shape is a tail
 pub IsShape-tail : (u b t : List Level) → IsPart u b → IsShape (b ++ t) → (h : HeardParts) × (t ≡ tail (ack_slot h.acked) h.last)
 IsShape-tail u b t part shape =
     let ten = tail (ack_slot shape.h.acked) shape.h.last in
     let one = IsPart-once u (heard_head shape.h ++ shape.check) b shape.s t ten part (IsPart-from shape.h shape.check shape.s shape.part) shape.whole in
     (shape.h, append_cancel_left b t ten (shape.whole ∙ ap (λ s. s ++ ten) (sym one.1)))
 
--- a check sequence in its place
+-- a CRC sequence in its place
 module _ (h : HeardParts) (check u : List Level) (fifteen : length check ≡ 15) (whole : u ≡ heard_head h ++ check) where
   head_is : head_of u ≡ heard_head h
   head_is = ap head_of whole ∙ head_of-append (heard_head h) check fifteen
@@ -96,7 +96,7 @@ module _ (u b : List Level) (part : IsPart u b) where
   pub IsPart-same : (h : HeardParts) (check s rest t : List Level) → IsStuffedPart h check s → s ++ rest ≡ b ++ t → (u ≡ heard_head h ++ check) × (b ≡ s)
   IsPart-same h check s rest t other same = IsPart-once u (heard_head h ++ check) b s t rest part (IsPart-from h check s other) (sym same)
 
-  -- a front of the tail behind a part whose check sequence agrees
+  -- a prefix of the tail after a part whose CRC sequence is right
   pub IsSound-tail : (acked : Bool) (last : Level) (t rest : List Level) → IsCrc (head_of u) (check_of u) → t ++ rest ≡ tail (ack_slot acked) last → IsSound (b ++ t)
   IsSound-tail acked last t rest agrees ten = record {
     begins = (rest, subst IsShape (ap (λ z. b ++ z) (sym ten) ∙ sym (append_assoc b t rest)) (IsShape-from acked last));
@@ -119,7 +119,7 @@ module _ (u b : List Level) (part : IsPart u b) where
             absurd (omega (arith, IsPart-length u b part, size, ap length same, length-append s rest, ap length one.1));
       }
 
-  -- a part whose check sequence is wrong is not sound
+  -- a part whose CRC sequence is wrong is not sound
   pub IsSound-wrong : (t : List Level) → (IsCrc (head_of u) (check_of u) → ⊥) → IsSound (b ++ t) → ⊥
   IsSound-wrong t wrong sound =
       let h = heard_of u true Recessive in

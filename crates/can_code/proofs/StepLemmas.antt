@@ -51,7 +51,7 @@ step_on-some s t x taken = of (eqb s.run 5) (same x s.last) refl refl taken
     of true false is_due is_right h = inl (eqb-true s.run 5 is_due, is_right, cc)
     of false wrong not_due w h = inr (eqb-false s.run 5 not_due, cc)
 
--- what holds of a step of up to n levels
+-- what is true of a step of up to n levels
 pub record StepBounds (s : Step) (n : ℕ) : Type 0 where
   pub small : s.number < 2 ^ s.len
   pub few : s.len ≤ n
@@ -72,7 +72,7 @@ step_on-bounds s t x n h taken = elim (step_on-some s t x taken) [
       })
 ]
 
--- a front behind these levels and a step
+-- a front after these levels and a step
 abbrev pub front_of : List Level → Step → FrontParts
 front_of u s = record { unstuffed = u ++ bits_of s.len s.number; last = s.last; run = s.run }
 
@@ -116,7 +116,7 @@ pub length-levels_up : (n x : ℕ) → length (levels_up n x) ≡ n
 length-levels_up zero x = refl
 length-levels_up (suc n) x = ap suc (length-levels_up n (x / 2))
 
--- what holds of a step of k levels behind a run, where k is n at most
+-- what is true of a step of k levels after a run, if k is at most n
 pub taken-bounds : (last : Level) (run n k m : ℕ) (t : Step) → 1 ≤ run → run ≤ 5 → k ≤ n → steps_on (begun last run) (levels_up k m) ≡ Some t → StepBounds t n
 taken-bounds last run n k m t some short within taken =
     let h = steps_on-bounds (levels_up k m) (begun last run) t 0 (begun-bounds last run some short) taken in
@@ -146,7 +146,7 @@ twice n = (let up : suc n ≡ n + 1 = omega arith in ap (λ e. 2 ^ e) up ∙ pow
 abbrev pub FrontDigits : ℕ → List ℕ → ℕ → Type 0
 FrontDigits n bytes number = (n ≤ length bytes) × (take n bytes ≡ map digit_of (levels_up n number))
 
--- a byte before others, of which these masks tell where dominant and recessive levels stand
+-- a byte before others, whose dominant and recessive levels these masks mark
 one_lane : (x : ℕ) (xs : List ℕ) (dominant recessive k : ℕ) (d r : Bool) → eqb x 48 ≡ d → eqb x 49 ≡ r → FrontDigits (count_trailing_zeros k (dominant + recessive + 1)) xs recessive
     → FrontDigits (count_trailing_zeros (suc k) ((cond d 1 zero + 2 * dominant) + (cond r 1 zero + 2 * recessive) + 1)) (x ∷ xs) (cond r 1 zero + 2 * recessive)
 unfolding count_trailing_zeros
@@ -207,7 +207,7 @@ take-levels_up zero n x h = refl
 take-levels_up (suc k) zero x h = absurd (omega arith)
 take-levels_up (suc k) (suc n) x h = ap (λ l. level_of (x % 2) ∷ l) (take-levels_up k n (x / 2) (omega arith))
 
--- the first k digits behind n, where a block there begins with c of them
+-- the first k digits after n, if a block there begins with c of them
 pub digits-levels_up : (digits block : List ℕ) (n k c m : ℕ) → k ≤ c → c ≤ 16 → block ≡ take 16 (drop n digits) → take c block ≡ map digit_of (levels_up c m)
     → take k (drop n digits) ≡ map digit_of (levels_up k m)
 digits-levels_up digits block n k c m few whole at are =
@@ -231,7 +231,7 @@ BeginWith-half digits block n m whole at are =
       ap (take 8) (sym (drop-drop 8 n digits)) ∙ sym (drop-take 8 8 (drop n digits)) ∙ ap (drop 8) all ∙ ap (λ x. map digit_of (levels_up 8 x)) (eight_halves m),
     )
 
--- levels at the front of digits, and more behind them
+-- levels at the front of digits, and more after them
 pub HearsDigits-append : (f g h : FrontParts) (digits : List ℕ) (n k : ℕ) (xs : List Level) → HearsDigits f g (take n digits) → take k (drop n digits) ≡ map digit_of xs
     → heard_levels g xs ≡ Some h → HearsDigits f h (take (n + k) digits)
 HearsDigits-append f g h digits n k xs so_far are heard = record {
@@ -240,7 +240,7 @@ HearsDigits-append f g h digits n k xs so_far are heard = record {
   heard = heard_levels-append so_far.levels xs f g so_far.heard ∙ heard;
 }
 
--- the same, where what is behind them was heard by itself
+-- this, if what follows them was received by itself
 pub HearsDigits-join : (f g h : FrontParts) (digits : List ℕ) (n k : ℕ) → HearsDigits f g (take n digits) → HearsDigits g h (take k (drop n digits)) → HearsDigits f h (take (n + k) digits)
 HearsDigits-join f g h digits n k so_far more = HearsDigits-append f g h digits n k more.levels so_far more.digits_are more.heard
 

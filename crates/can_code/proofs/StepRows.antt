@@ -4,7 +4,7 @@ use Rattle.can_code.specs.Steps.{RunParts, Step, row_of, run_at, row_run}
 use Rattle.can_code.specs.Unstuffing.{Unstuffs, as_run}
 use Rattle.can_code.proofs.StepTable.{row_of-last, row_of-run}
 
--- behind a step the row stands for its last level and its run
+-- after a step the row represents its last level and its run
 pub Unstuffs-row : (digits : List ℕ) (room : ℕ) (before : RunParts) (number len taken : ℕ) (s : Step) → 1 ≤ s.run → s.run ≤ 5
     → Unstuffs digits room before (record { number = number; len = len; behind = record { last = s.last; run = s.run }; taken = taken })
     → Unstuffs digits room before (as_run (record { number = number; len = len; row = row_of s.last s.run; taken = taken }))

@@ -30,7 +30,7 @@ levels_below-none : (n : ℕ) → levels_below n 1 ≡ []
 levels_below-none zero = refl
 levels_below-none (suc n) = refl
 
--- below a bit that ends them stand so many levels of a number
+-- below a bit that ends them are n levels of a number
 pub levels_below-up : (n k m : ℕ) → k ≤ n → levels_below n (2 ^ k + m % 2 ^ k) ≡ levels_up k m
 levels_below-up n zero m h =
     let one : 2 ^ 0 + m % 2 ^ 0 ≡ 1 = omega arith in
@@ -99,13 +99,13 @@ module _ (s : Step) (e : ℕ) (is : e ≡ s.number + 256 * s.len + 4096 * row_of
   entry-step =
       same_step s (e % 256) (e / 256 % 16) (e / 4096) (omega (arith, is, small, h.few)) (omega (arith, is, small, h.few)) (omega (arith, is, small, h.few))
 
--- where it has a step
+-- if it has a step
 pub read-some : (o : Option Step) (e : ℕ) → e ≡ step_entry o → ((s : Step) → o ≡ Some s → StepBounds s 8) → e ≢ 65535
     → ◌≡◌ {A = Option TableStep} (Some (record { number = e % 256; len = e / 256 % 16; row = e / 4096 })) (in_table o)
 read-some None e is bounds some = absurd (some is)
 read-some (Some s) e is bounds some = entry-step s e is (bounds s refl)
 
--- and where it has none
+-- and if it has none
 pub read-none : (o : Option Step) (e : ℕ) → e ≡ step_entry o → ((s : Step) → o ≡ Some s → StepBounds s 8) → e ≡ 65535 → None ≡ in_table o
 read-none None e is bounds none = refl
 read-none (Some s) e is bounds none = absurd (entry-no_none s e is (bounds s refl) none)

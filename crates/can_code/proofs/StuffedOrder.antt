@@ -1,4 +1,4 @@
--- Stuffing keeps the order of lists: where of two lists one is before the other, so is it with its stuff bits.
+-- Stuffing keeps the order of lists: if one list is before another, so it is with the stuff bits of both.
 use Rattle.std.proofs.Common.{◌≡◌, ℕ, suc, zero, Bool, true, false, Some, List, [], ◌∷◌, take, refl, cond}
 use Rattle.std.proofs.Math.Dec.{eqb}
 use Rattle.std.specs.Prelude.{slice_get}
@@ -21,7 +21,7 @@ first_differs p q a b c d = record { place = 0; same = refl; low = low p; high =
     high true = refl
     high false = refl
 
--- behind a run of any level and length
+-- after a run of any level and length
 stuffed_from-before : (a b : List Level) (last : Level) (run place : ℕ) → take place a ≡ take place b → slice_get a place ≡ Some Dominant → slice_get b place ≡ Some Recessive
     → Before (stuffed_from last run a) (stuffed_from last run b)
 stuffed_from-before [] b last run place same low high = cc

@@ -49,13 +49,13 @@ front_of b d x y same shorter =
     let front : b ≡ take (length b) d = sym (take_at b x (length b) refl) ∙ ap (take (length b)) same ∙ take-append-le (length b) d y shorter in
     sym (take-append-drop (length b) d) ∙ ap (λ t. t ++ drop (length b) d) (sym front)
 
--- at most one complete stuffed part stands at the front of a list
+-- a list begins with at most one complete stuffed part
 pub IsPart-once : (u v b d x y : List Level) → IsPart u b → IsPart v d → b ++ x ≡ d ++ y → (u ≡ v) × (b ≡ d)
 IsPart-once u v b d x y p q same =
     let one = Stuffs-once u v b d x y p.complete q.complete p.stuffs q.stuffs same in
     (sym p.stuffs.rest ∙ ap (λ z. kept z 0 z) one ∙ q.stuffs.rest, one)
 
--- the stuffed part of a spelled list, and its check sequence
+-- the stuffed part of an encoded frame, and its CRC sequence
 pub Spells-part : (h : HeardParts) (w : List Level) → Spells h w
     → (check : List Level) × (s : List Level) × IsStuffedPart h check s × IsCrc (heard_head h) check × (w ≡ s ++ tail (ack_slot h.acked) h.last)
 Spells-part h w spelled =

@@ -1,4 +1,4 @@
--- The ten levels behind the stuffed part, heard one by one.
+-- The ten levels after the stuffed part, received one by one.
 use Rattle.std.proofs.Common.{◌≡◌, ◌≢◌, ℕ, zero, suc, ◌+◌, ◌<◌, Bool, true, false, not, List, [], ◌∷◌, ◌++◌, get_or, take, refl, sym, ◌∙◌, ap, subst, arith}
 use Rattle.std.proofs.lemmas.List.{take_more, length-take-le, get_or_at}
 use Rattle.can_frame.specs.declared.level.Level.{Level}

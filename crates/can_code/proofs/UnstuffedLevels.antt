@@ -12,12 +12,12 @@ use Rattle.can_wire.proofs.LayoutLengths.{frame_len_ge}
 use Rattle.can_wire.proofs.LayoutRead.{frame_of-head, head-complete, check_of-append, head_of-append}
 
 module _ (f : Parts) where
-  -- they are those of what is heard where all is sent as it should be
+  -- they are those of a frame as received if all is as sent
   pub unstuffed-sent : heard_head (sent f) ++ crc_of (heard_head (sent f)) ≡ unstuffed f
   unfolding unstuffed
   unstuffed-sent = ap (λ b. b ++ crc_of b) (heard_head-sent f)
 
-  -- the check sequence is that of the levels before it
+  -- the CRC sequence is that of the levels before it
   pub head_of-unstuffed : head_of (unstuffed f) ≡ head f
   unfolding unstuffed
   head_of-unstuffed = head_of-append (head f) (crc_of (head f)) (length-crc_of (head f))

@@ -30,9 +30,9 @@ use Rattle.can_code.proofs.FrontLemmas.{next_place-ended}
 use Rattle.can_code.proofs.HeardLevels.{hear_at-going}
 use Rattle.can_code.proofs.DecoderLemmas.{heard_levels-append, HasHeard-run, HasHeard-tail}
 
--- ---- the room before the check sequence is whole
+-- ---- the levels that may follow before the CRC sequence is whole
 
--- the data of an extended frame stand behind those of a standard one
+-- the data of an extended frame come later than those of a standard one
 extended_place : (extended : Bool) → 19 < data_place extended → data_place extended ≡ 39
 extended_place true h = refl
 extended_place false h = absurd (omega arith)
@@ -53,7 +53,7 @@ module _ (u : List Level) where
       let kept : data_place (extended_of (u ++ v)) ≡ data_place (extended_of u) = ap (λ t. data_place (is_recessive t)) (level_at-append u v 13 (omega arith)) in
       omega (arith, length-append u v, place, kept, frame_len_least (u ++ v))
 
-  -- a length that is told stays
+  -- a length that is determined stays
   pub TellsLength-append : (v : List Level) (n : ℕ) → TellsLength u (Some n) → TellsLength (u ++ v) (Some n)
   TellsLength-append v n told =
       let before : data_place (extended_of u) ≤ length u = told.0 in
@@ -72,7 +72,7 @@ other_level Dominant Recessive h = refl
 other_level Recessive Dominant h = refl
 other_level Recessive Recessive h = cc
 
--- a front with room has not ended
+-- a front with space for levels has not ended
 pub next_place-room : (f : FrontParts) → length f.unstuffed < frame_len f.unstuffed → next_place f ≢ CrcDelimiter
 next_place-room f room ended = absurd (omega (arith, eqb-true (frame_len f.unstuffed) (length f.unstuffed) (next_place-ended f ended).1))
 
@@ -80,7 +80,7 @@ start_stays : (u v : List Level) → take 1 u ≡ Dominant ∷ [] → take 1 (u 
 start_stays [] v h = cc
 start_stays (x ∷ u) v h = h
 
--- a front with levels for which it has room
+-- a front with levels for which it has space
 pub IsFront-run : (f : FrontParts) (v : List Level) (last : Level) (run r : ℕ) → IsFront f → IsOpenFor f.unstuffed r → length v ≤ r → 1 ≤ run → run ≤ 5
     → IsFront (record { unstuffed = f.unstuffed ++ v; last = last; run = run })
 IsFront-run f v last run r h room short some few = record {
@@ -146,7 +146,7 @@ HearsDigits-number f u len number last run digits n x more is room not_due so_fa
 
 -- ---- a decoder that hears them
 
--- within the stuffed part, up to its end only where its check sequence agrees
+-- within the stuffed part, to its end only if its CRC sequence is right
 pub DecodesDigits-part : (d e : DecoderParts) (digits : List ℕ) → next_place d.front ≢ CrcDelimiter → (next_place e.front ≡ CrcDelimiter → IsCrc (head_of e.front.unstuffed) (check_of e.front.unstuffed)) → e.behind ≡ d.behind
     → HearsDigits d.front e.front digits → DecodesDigits d e digits
 DecodesDigits-part d e digits going agrees same_behind h = record {
@@ -163,7 +163,7 @@ DecodesDigits-join d e g digits n k some more = record {
   heard = λ before heard. subst (HasHeard g) (append_assoc before some.levels more.levels) (more.heard (before ++ some.levels) (some.heard before heard));
 }
 
--- behind it, one level more
+-- after it, one more level
 module _ (k : ℕ) (acked : Bool) (n : ℕ) (between : Bool) (digits : List ℕ) (so_far : HearsTail k acked (k + n) between (take n digits)) (more : n < length digits) (x : Level) (is : get_or digits n 0 ≡ digit_of x) where
   pub HearsTail-level : (after : Bool) → take (k + n + 1) (tail (ack_slot after) Recessive) ≡ take (k + n) (tail (ack_slot between) Recessive) ++ x ∷ [] → HearsTail k acked (k + (n + 1)) after (take (n + 1) digits)
   HearsTail-level after follows = record {

@@ -8,7 +8,7 @@ use Rattle.can_code.specs.Digits.{HearsTail, levels_up}
 use Rattle.can_code.proofs.StepLemmas.{digits-levels_up}
 use Rattle.can_code.proofs.StepTable.{levels_below, levels_below-up}
 
--- where a number's nine lowest bits are known, so are its nine levels
+-- if a number's nine lowest bits are known, so are its nine levels
 nine_levels : (m low : ℕ) → m % 2 ^ 9 ≡ low → levels_up 9 m ≡ levels_below 9 (2 ^ 9 + low)
 nine_levels m low is = sym (levels_below-up 9 9 m (omega arith)) ∙ ap (λ b. levels_below 9 (2 ^ 9 + b)) is
 

@@ -56,7 +56,7 @@ module _ (f : Parts) (is : IsFrame f) where
       unfolding front_at
       front_at-begins = part-begins (unstuffed f) (stuffed_part f) (stuffed_part-part f is) o some within
 
-    -- the first o levels, where more follow
+    -- the first o levels, if more follow
     module _ (more : o < length (stuffed_part f)) where
       -- the stuffed part has not ended
       pub front_at-going : next_place (front_at f o) ≢ CrcDelimiter

@@ -1,4 +1,4 @@
--- A run and the row of the table of steps that stands for it give each other back.
+-- A run and the row of the step table that represents it determine each other.
 use Rattle.std.specs.Prelude.{ℕ, ◌≡◌, ◌+◌, ◌-◌, ◌*◌, ◌/◌, ◌%◌, ◌<◌}
 use Rattle.std.proofs.Common.{zero, suc, refl, ap, ◌∙◌, arith}
 use Rattle.can_frame.specs.Levels.{level_of, level_code}

@@ -1,4 +1,5 @@
--- What the sender of a frame drives, stuff bits aside, by place. (Bosch CAN 2.0 part B, section 3.2.1)
+-- The levels that the transmitter of a frame drives, without stuff bits, by place. (Bosch CAN 2.0 part B, section
+-- 3.2.1)
 use Rattle.std.specs.Prelude.{ℕ}
 use Rattle.can_frame.specs.declared.level.Level.{Level}
 use Rattle.can_frame.specs.Parts.{Parts}

@@ -5,20 +5,19 @@ use Rattle.can_frame.specs.Levels.{level_of, same, level_code}
 use Rattle.can_wire.specs.Stuffing.{run_after}
 use Rattle.can_code.specs.declared.steps.TableStep.{TableStep}
 
--- Levels without their stuff bits: the unstuffed ones as a number whose bits they are, the first of them the
--- highest, and how many they are; the last level, which may be a stuff bit, and how many levels up to it, in a row,
--- equal it.
+-- Levels without their stuff bits: the unstuffed ones as the bits of a number, the first level highest, and how many
+-- they are; the last level, which may be a stuff bit, and the length of the run of equal levels that it ends.
 pub record Step : Type 0 where
   pub number : ℕ
   pub len : ℕ
   pub last : Level
   pub run : ℕ
 
--- none, behind a run of this level and length
+-- no levels yet, after a run of this level and length
 abbrev pub begun : Level → ℕ → Step
 begun last run = record { number = 0; len = 0; last = last; run = run }
 
--- One level more. Behind five equal levels it is a stuff bit, which has to differ from them.
+-- One more level. After five equal levels it is a stuff bit, which has to differ from them.
 abbrev pub step_on : Step → Level → Option Step
 step_on s x =
     if s.run == 5 then (if same x s.last then None else Some (record { number = s.number; len = s.len; last = x; run = 1 }))
@@ -31,12 +30,12 @@ steps_on s (x ∷ xs) = option_and_then (λ t. steps_on t xs) (step_on s x)
 
 -- ---- the table of the code
 
--- a run of equal levels: its level, and how many levels up to the last of them, in a row, equal it
+-- a run of equal levels: its level, and its length
 pub record RunParts : Type 0 where
   pub last : Level
   pub run : ℕ
 
--- its row behind a run of this level and length, and what stands before a row
+-- the row for the levels after a run of this level and length, and the run before a row
 abbrev pub row_of : Level → ℕ → ℕ
 row_of last run = 5 * level_code last + (run - 1)
 
@@ -49,12 +48,12 @@ row_run row = row % 5 + 1
 abbrev pub run_at : ℕ → RunParts
 run_at row = record { last = row_last row; run = row_run row }
 
--- a step, as the code has it
+-- a step as the code has it
 abbrev pub in_table : Option Step → Option TableStep
 in_table None = None
 in_table (Some s) = Some (record { number = s.number; len = s.len; row = row_of s.last s.run })
 
--- and as a number
+-- the table entry of a step
 abbrev pub step_entry : Option Step → ℕ
 step_entry None = 65535
 step_entry (Some s) = s.number + 256 * s.len + 4096 * row_of s.last s.run

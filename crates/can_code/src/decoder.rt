@@ -14,28 +14,27 @@ use can_frame::Level;
 use can_wire::{FrameBits, Heard};
 use std::marker::Model;
 
-/// Where the ACK slot stands in the ten levels behind the stuffed part: behind the CRC delimiter.
+/// The place of the ACK slot in the ten levels after the stuffed part: after the CRC delimiter.
 const ACK_SLOT: usize = 1;
 
-/// Where the last level of the end of frame stands in them: behind CRC delimiter, ACK slot, ACK
-/// delimiter, and six levels of the end of frame.
+/// The place of the last level of the end of frame in these ten: after CRC delimiter, ACK slot, ACK delimiter,
+/// and six levels of the end of frame.
 const LAST_LEVEL: usize = 9;
 
-/// The levels of a tail before it, the first of them the lowest bit, where the ACK slot is dominant.
+/// The nine levels of a tail before its last one if the ACK slot is dominant. The first level is the lowest bit.
 const TAIL: u64 = 0b1_1111_1101;
 
-/// The same where the ACK slot is recessive.
+/// These nine levels if the ACK slot is recessive.
 const UNACKNOWLEDGED_TAIL: u64 = 0b1_1111_1111;
 
-/// A frame as it is decoded, level by level, from its start of frame on. (Bosch CAN 2.0 part B,
-/// sections 3.2.1 and 6)
+/// A frame that is decoded level by level, from its start of frame on. (Bosch CAN 2.0 part B, sections 3.2.1 and
+/// 6)
 ///
-/// The ACK slot, the reserved bits, SRR and the last level of the end of frame are taken at either
-/// value.
+/// The ACK slot, the reserved bits, SRR and the last level of the end of frame are accepted at either value.
 #[derive(Drop)]
 pub struct Decoder<B: FrameBits> {
     front: Front<B>,
-    /// How many levels have been heard behind the stuffed part, 0 to 9.
+    /// How many levels have been received after the stuffed part, 0 to 9.
     behind: usize,
     acked: bool,
 }
@@ -55,7 +54,7 @@ impl<B: FrameBits> Model for Decoder<B> {
 }
 
 impl<B: FrameBits> Decoder<B> {
-    /// A decoder that has heard the start of frame.
+    /// Returns a decoder that has received the start of frame.
     pub fn begin() -> Self
         ensures { HasHeard result (Dominant ∷ []) }
     {
@@ -66,9 +65,13 @@ impl<B: FrameBits> Decoder<B> {
         }
     }
 
-    /// Hears one level more. `Ok(None)`: the frame goes on. `Ok(Some(heard))`: that was its last
-    /// level. `Err(kind)`: the fault that shows at this level. After the last level and after a
-    /// fault nothing is promised of further calls.
+    /// Takes one more level, and returns whether the frame continues, is complete or has a fault.
+    ///
+    /// - `Ok(None)`: the frame continues.
+    /// - `Ok(Some(heard))`: the level was the last one of this frame.
+    /// - `Err(kind)`: the level shows a fault of this kind.
+    ///
+    /// After the last level and after a fault nothing is promised of further calls.
     #[inline]
     pub fn hear(&mut self, level: Level) -> Result<Option<Heard>, CodeFaultKind>
         ensures more { result ≡ Ok None → (l : List Bit) → HasHeard self.old l → HasHeard self.new (l ++ level ∷ []) }
@@ -94,9 +97,9 @@ impl<B: FrameBits> Decoder<B> {
         Ok(None)
     }
 
-    /// Hears levels from the front of these digits, as many as it likes, and answers how many: the same as
-    /// [`hear`](Decoder::hear) of each of them, where the frame goes on. It stops before a level that ends
-    /// the frame or shows a fault, and at a byte that is no digit.
+    /// Takes levels from the front of these digits as long as the frame continues, and returns how many. The
+    /// effect is that of [`hear`](Decoder::hear) for each of them. It stops before a level that ends the frame
+    /// or shows a fault, and at a byte that is not a digit. It may stop earlier.
     #[inline]
     pub fn hear_run(&mut self, digits: &[u8]) -> usize
         ensures within { result ≤ length digits.now }
@@ -106,7 +109,7 @@ impl<B: FrameBits> Decoder<B> {
         front + self.hear_behind(&digits[front..])
     }
 
-    /// The same up to the end of the stuffed part.
+    /// Takes levels of the stuffed part only.
     #[inline]
     fn hear_front(&mut self, digits: &[u8]) -> usize
         ensures within { result ≤ length digits.now }
@@ -118,7 +121,7 @@ impl<B: FrameBits> Decoder<B> {
         self.front.hear_run(digits)
     }
 
-    /// The same behind the stuffed part.
+    /// Takes levels after the stuffed part only.
     #[inline]
     fn hear_behind(&mut self, digits: &[u8]) -> usize
         ensures within { result ≤ length digits.now }
@@ -137,14 +140,14 @@ impl<B: FrameBits> Decoder<B> {
 /// Levels of a tail.
 #[derive(Clone, Copy)]
 struct TailRun {
-    /// How many they are.
+    /// How many levels were taken.
     taken: usize,
-    /// Whether the ACK slot, which may be one of them or stand before them, was dominant.
+    /// Whether the ACK slot, one of these levels or of those before, was dominant.
     acked: bool,
 }
 
-/// Takes levels of a tail but for its last one from the front of these digits, where `behind` of its levels
-/// stand before them.
+/// Takes levels of a tail, except its last one, from the front of these digits. `behind` levels of the tail came
+/// before.
 #[inline]
 fn tail_of(digits: &[u8], behind: usize, acked: bool) -> TailRun
     requires { behind < 10 }
@@ -161,8 +164,7 @@ fn tail_of(digits: &[u8], behind: usize, acked: bool) -> TailRun
     }
 }
 
-/// Whether the ACK slot is dominant in a tail that begins with these digits, if all of it but for its last level
-/// does.
+/// If these digits begin with a whole tail except its last level: whether its ACK slot is dominant.
 #[inline]
 fn whole_tail(digits: &[u8]) -> Option<bool>
     ensures within { IfSome result (λ acked. 9 ≤ length digits.now) }
@@ -182,7 +184,7 @@ fn whole_tail(digits: &[u8]) -> Option<bool>
     }
 }
 
-/// Takes levels of a tail but for its last one, level by level.
+/// Takes levels of a tail, except its last one, level by level.
 fn tail_levels(digits: &[u8], behind: usize, acked: bool) -> TailRun
     requires { behind < 10 }
     ensures within { result.taken ≤ length digits.now }

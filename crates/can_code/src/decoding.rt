@@ -8,13 +8,13 @@ use crate::fault::{CodeFault, CodeFaultKind};
 use can_frame::Level;
 use can_wire::{Heard, PackedBits};
 
-/// The frame at the front of the levels as it is heard, and how many levels it has. (Bosch CAN 2.0
-/// part B, sections 3.2.1 and 6)
+/// Returns the frame at the front of the levels as received, and the number of its levels. (Bosch
+/// CAN 2.0 part B, sections 3.2.1 and 6)
 ///
-/// The ACK slot, the reserved bits, SRR and the last level of the end of frame are taken at either
-/// value. Else the fault is the first one, read from the left, and its place is that of the level
-/// at which it shows: the number of levels where they end too early, the last place of the stuffed
-/// part where the CRC sequence is wrong.
+/// The ACK slot, the reserved bits, SRR and the last level of the end of frame are accepted at
+/// either value. If there is no such frame, the fault is the first one from the left, and its place
+/// is that of the level that shows it. If the levels end too early, the place is their number. If
+/// the CRC sequence is wrong, it is the last place of the stuffed part.
 pub fn decode(levels: &[Level]) -> Result<(Heard, usize), CodeFault>
     ensures found { IfOk result (λ r. Spells r.0 (take r.1 levels.now) × (r.1 ≤ length levels.now)) }
     ensures only { (h : HeardParts) (w rest : List Bit) → Spells h w → w ++ rest ≡ levels.now → result ≡ Ok (h, length w) }

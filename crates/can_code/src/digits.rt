@@ -5,19 +5,19 @@ ghost use Rattle.can_code.specs.Digits.{levels_up};
 
 use std::simd::prelude::*;
 
-/// How many digits are read at once.
+/// The number of digits that are read at once.
 pub(crate) const BLOCK: usize = 16;
 
-/// Levels whose digits stand at the front of a block.
+/// Levels whose digits begin a block.
 #[derive(Clone, Copy)]
 pub(crate) struct BlockLevels {
-    /// The levels, as the bits of a number, the first of them the lowest.
+    /// The levels as the bits of a number, the first level lowest.
     pub(crate) number: u64,
-    /// How many they are.
+    /// The number of levels.
     pub(crate) count: usize,
 }
 
-/// The levels whose digits stand at the front of the block, up to its first byte that is no digit.
+/// The levels whose digits begin the block, before its first byte that is not a digit.
 #[inline]
 pub(crate) fn levels_of(block: &[u8; BLOCK]) -> BlockLevels
     ensures within { result.count ≤ 16 }
@@ -31,7 +31,8 @@ pub(crate) fn levels_of(block: &[u8; BLOCK]) -> BlockLevels
     }
 }
 
-/// Where this byte stands in the block of 16, as the bits of a number. The first place is the lowest bit.
+/// The places of this byte in the block of 16, as the bits of a number. The first place is the lowest
+/// bit.
 #[inline]
 pub fn places_of(block: &[u8; BLOCK], byte: u8) -> u64
     ensures places { result ≡ mask_l (map (λ other. other == byte) block.now) }

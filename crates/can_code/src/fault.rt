@@ -1,6 +1,6 @@
 use thiserror::Error;
 
-/// What kind of fault levels have that begin with no frame. (Bosch CAN 2.0 part B, section 7.1)
+/// The kind of fault of levels that do not begin with a frame. (Bosch CAN 2.0 part B, section 7.1)
 #[derive(Clone, Copy, Debug, PartialEq, Eq, Error)]
 pub enum CodeFaultKind {
     /// The levels end before the frame does.
@@ -9,10 +9,10 @@ pub enum CodeFaultKind {
     /// The first level is recessive.
     #[error("C2")]
     NoStartOfFrame,
-    /// A stuff place repeats the level before it.
+    /// A stuff bit has the level of the bit before it.
     #[error("C3")]
     Stuff,
-    /// The stuffed part is complete, and its check sequence is wrong.
+    /// The stuffed part is complete, and its CRC sequence is wrong.
     #[error("C4")]
     Crc,
     /// The CRC delimiter, the ACK delimiter or one of the first six levels of the end of frame is
@@ -21,12 +21,12 @@ pub enum CodeFaultKind {
     Form,
 }
 
-/// Why levels begin with no frame. It prints as `C5 at 39`.
+/// Why levels do not begin with a frame. It prints as `C5 at 39`.
 #[derive(Clone, Copy, Debug, PartialEq, Eq, Error)]
 #[error("{kind} at {place}")]
 pub struct CodeFault {
-    /// What is wrong.
+    /// The kind of fault.
     pub kind: CodeFaultKind,
-    /// The number of levels before the first one that is wrong.
+    /// The number of levels before the one that shows the fault.
     pub place: usize,
 }

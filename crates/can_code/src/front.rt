@@ -24,18 +24,18 @@ pub enum Place {
     CrcDelimiter,
 }
 
-/// A stuff place repeats the level before it.
+/// A stuff error: a stuff bit has the level of the bit before it.
 #[derive(Clone, Copy, Debug, PartialEq, Eq, Error)]
 #[error("a stuff place repeats the level before it")]
 pub struct StuffError;
 
-/// What has been heard of a frame, from its start of frame on.
+/// What has been received of a frame, from its start of frame on.
 #[derive(Drop)]
 pub struct Front<B: FrameBits> {
     bits: B,
     /// The run that the last level ends.
     run: Run,
-    /// How many unstuffed levels the frame has, as soon as they tell it.
+    /// The number of unstuffed levels of the frame, once they determine it.
     length: Option<usize>,
 }
 
@@ -52,7 +52,7 @@ impl<B: FrameBits> Model for Front<B> {
 }
 
 impl<B: FrameBits> Front<B> {
-    /// A frame of which the start of frame alone has been heard.
+    /// Returns the front of a frame of which only the start of frame has been received.
     pub fn begin() -> Self
         ensures { result ≡ first_front }
     {
@@ -63,8 +63,8 @@ impl<B: FrameBits> Front<B> {
         }
     }
 
-    /// What the next level is. The stuffed part has ended where the unstuffed levels have their
-    /// whole CRC sequence and no stuff bit is due.
+    /// Returns what the next level is. The stuffed part has ended if the unstuffed levels have their whole
+    /// CRC sequence and no stuff bit is due.
     #[inline(always)]
     pub fn next_place(&self) -> Place
         ensures place { result ≡ next_place_of self.now }
@@ -79,7 +79,7 @@ impl<B: FrameBits> Front<B> {
         }
     }
 
-    /// Takes one level of the stuffed part.
+    /// Takes one level of the stuffed part. On a stuff error the front stays unchanged.
     #[inline(always)]
     pub fn hear(&mut self, level: Level) -> Result<(), StuffError>
         requires { next_place_of self.old ≢ Place.CrcDelimiter }
@@ -102,10 +102,14 @@ impl<B: FrameBits> Front<B> {
         Ok(())
     }
 
-    /// Hears levels from the front of these digits, and answers how many: the same as [`hear`](Front::hear)
-    /// of each of them. It ends with the stuffed part, and stops before a level that completes a wrong CRC
-    /// sequence, at a stuff place that repeats the level before it, and at a byte that is no digit. It may
-    /// stop sooner.
+    /// Takes levels of the stuffed part from the front of these digits, and returns how many. The effect is
+    /// that of [`hear`](Front::hear) for each of them. It ends with the stuffed part, and stops before:
+    ///
+    /// - a level that completes a wrong CRC sequence;
+    /// - a stuff bit with the level of the bit before it;
+    /// - a byte that is not a digit.
+    ///
+    /// It may stop earlier.
     #[inline]
     pub fn hear_run(&mut self, digits: &[u8]) -> usize
         requires { next_place_of self.old ≢ Place.CrcDelimiter }
@@ -117,7 +121,7 @@ impl<B: FrameBits> Front<B> {
         taken + self.hear_last(&digits[taken..])
     }
 
-    /// The same, as far as the last level of the CRC sequence.
+    /// Takes levels, at most to the last but one of the CRC sequence.
     #[inline]
     fn hear_parts(&mut self, digits: &[u8]) -> usize
         requires { next_place_of self.old ≢ Place.CrcDelimiter }
@@ -136,7 +140,7 @@ impl<B: FrameBits> Front<B> {
         taken
     }
 
-    /// The same, as many as have room in one number of their unstuffed levels.
+    /// Takes levels as long as one number has space for their unstuffed levels.
     #[inline]
     fn hear_part(&mut self, digits: &[u8]) -> usize
         requires { next_place_of self.old ≢ Place.CrcDelimiter }
@@ -148,7 +152,7 @@ impl<B: FrameBits> Front<B> {
         if room == 0 {
             return 0;
         }
-        // unless the room is all that is left
+        // except if this space is all that is left
         let waits = self.length.is_none() || room == NUMBER_BITS;
         let heard = unstuff(digits, room, waits, self.run);
         if heard.taken == 0 {
@@ -162,8 +166,8 @@ impl<B: FrameBits> Front<B> {
         heard.taken
     }
 
-    /// Hears the last level of the CRC sequence, if it is next and completes the right one, and answers how
-    /// many levels it heard.
+    /// Takes the last level of the CRC sequence if it is next and completes the right one. Returns how many
+    /// levels it took.
     #[inline]
     fn hear_last(&mut self, digits: &[u8]) -> usize
         requires { next_place_of self.old ≢ Place.CrcDelimiter }
@@ -180,7 +184,7 @@ impl<B: FrameBits> Front<B> {
         }
     }
 
-    /// The same once more.
+    /// Returns a copy.
     pub fn copied(&self) -> Self
         ensures { result ≡ self.now }
     {
@@ -191,7 +195,7 @@ impl<B: FrameBits> Front<B> {
         }
     }
 
-    /// How many unstuffed levels have been heard.
+    /// The number of unstuffed levels that have been received.
     pub fn len(&self) -> usize
         ensures { result ≡ length self.now.unstuffed }
     {
@@ -205,7 +209,7 @@ impl<B: FrameBits> Front<B> {
         self.run.level()
     }
 
-    /// Whether the IDE bit, which has been heard, is that of an extended frame.
+    /// Whether the IDE bit, which has been received, is that of an extended frame.
     pub fn is_extended(&self) -> bool
         requires { 13 < length self.now.unstuffed }
         ensures { result ≡ extended_of self.now.unstuffed }
@@ -213,7 +217,7 @@ impl<B: FrameBits> Front<B> {
         is_extended(&self.bits)
     }
 
-    /// Whether the CRC sequence that was heard is that of the levels before it.
+    /// Whether the received CRC sequence is that of the levels before it.
     pub fn check_agrees(&self) -> bool
         requires { next_place_of self.now ≡ Place.CrcDelimiter }
         ensures { IsTrue result ↔ IsCrc (head_of self.now.unstuffed) (check_of self.now.unstuffed) }
@@ -229,7 +233,7 @@ impl<B: FrameBits> Front<B> {
         frame(&self.bits)
     }
 
-    /// What has been heard, with the levels behind the stuffed part: whether the frame was
+    /// Returns the frame as received, from the stuffed part and two levels after it: whether a receiver has
     /// acknowledged, and the last level of the end of frame.
     pub fn heard(&self, acked: bool, last: Level) -> Heard
         requires { next_place_of self.now ≡ Place.CrcDelimiter }
@@ -239,7 +243,7 @@ impl<B: FrameBits> Front<B> {
     }
 }
 
-/// The same unstuffed levels once more, by two numbers of them, which hold all behind the start of frame.
+/// A copy of unstuffed levels, made from two numbers, which contain all levels after the start of frame.
 fn levels_copied<B: FrameBits>(bits: &B) -> B
     requires start { take 1 (B.levels bits.now) ≡ Level.Dominant ∷ [] }
     requires longest { length (B.levels bits.now) ≤ 118 }

@@ -10,13 +10,13 @@ ghost use Rattle.can_code.specs.Front.{FrontParts, first_front, heard_levels, ne
 ghost use Rattle.can_code.specs.CodeFaults.{IsCodeFault};
 ghost use Rattle.can_code.specs.Decoder.{DecoderParts, HasHeard};
 
-/// Levels that begin with no frame have at most one fault.
+/// Levels that do not begin with a frame have at most one fault.
 pub fn one_code_fault()
     ensures { (l : List Bit) (f g : Fault) → IsCodeFault l f → IsCodeFault l g → f ≡ g }
 {}
 
-/// A frame's stuffed part, heard level by level behind its start of frame, gives its unstuffed
-/// levels and ends where it ends; and nothing else does.
+/// A front takes the levels of a stuffed part after the start of frame, and ends exactly with it.
+/// Then it has the unstuffed levels of this part. No other levels end a front.
 pub fn stuffed_parts_are_heard()
     ensures exists { (u b : List Bit)
         → IsComplete u → Stuffs u (Dominant ∷ b)
@@ -26,7 +26,7 @@ pub fn stuffed_parts_are_heard()
         → IsComplete f.unstuffed × Stuffs f.unstuffed (Dominant ∷ b) }
 {}
 
-/// Where no level is left before a decoder's frame ends, the levels are too short.
+/// If the levels end before a decoder's frame does, the fault is that they are too short.
 pub fn unfinished_frames_are_short()
     ensures { (d : DecoderParts) (l : List Bit) → HasHeard d l → IsCodeFault l (record { kind = Short; place = length l }) }
 {}

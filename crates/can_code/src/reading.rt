@@ -12,8 +12,8 @@ use can_wire::places::{
 };
 use can_wire::{FrameBits, Heard};
 
-/// How many unstuffed levels the frame has that begins with these, if they tell it. It stands apart, as it is
-/// asked once or twice a frame.
+/// The number of unstuffed levels of the frame that begins with these, if they determine it. It is not
+/// inlined, since it is called only once or twice a frame.
 #[inline(never)]
 pub(crate) fn frame_len<B: FrameBits>(bits: &B) -> Option<usize>
     ensures { TellsLength (B.levels bits.now) result }
@@ -36,7 +36,7 @@ pub(crate) fn is_extended<B: FrameBits>(bits: &B) -> bool
     bits.level_at(IDE_PLACE).is_recessive()
 }
 
-/// How many data bytes the frame has.
+/// The number of data bytes of the frame.
 fn byte_count<B: FrameBits>(bits: &B) -> usize
     requires { HasControl (B.levels bits.now) }
     ensures value { result ≡ byte_count_of (remote_of (B.levels bits.now)) (dlc_of (B.levels bits.now)) }
@@ -66,7 +66,7 @@ fn dlc<B: FrameBits>(bits: &B) -> u8
     bits.number_at(rtr_place(is_extended(bits)) + 3, 4) as u8
 }
 
-/// What is heard where these are the unstuffed levels of a whole frame.
+/// The frame as received whose unstuffed levels are these, of a whole frame.
 pub(crate) fn heard<B: FrameBits>(bits: &B, acked: bool, last: Level) -> Heard
     requires { HasData (B.levels bits.now) }
     ensures { result ≡ heard_of (B.levels bits.now) acked last }
@@ -75,7 +75,7 @@ pub(crate) fn heard<B: FrameBits>(bits: &B, acked: bool, last: Level) -> Heard
     Heard::new(frame(bits), srr(bits), r1(bits), r0, acked, last).unwrap()
 }
 
-/// The SRR bit; a standard frame, which has none, counts as having it as it would be sent.
+/// The SRR bit. A standard frame has none; it counts as recessive.
 fn srr<B: FrameBits>(bits: &B) -> Level
     requires { HasControl (B.levels bits.now) }
     ensures { result ≡ (if extended_of (B.levels bits.now) then level_at (B.levels bits.now) 12 else Recessive) }
@@ -87,7 +87,7 @@ fn srr<B: FrameBits>(bits: &B) -> Level
     }
 }
 
-/// The reserved bit r1; a standard frame, which has none, counts as having it as it would be sent.
+/// The reserved bit r1. A standard frame has none; it counts as dominant.
 fn r1<B: FrameBits>(bits: &B) -> Level
     requires { HasControl (B.levels bits.now) }
     ensures { result ≡ (if extended_of (B.levels bits.now) then level_at (B.levels bits.now) 33 else Dominant) }
@@ -99,7 +99,7 @@ fn r1<B: FrameBits>(bits: &B) -> Level
     }
 }
 
-/// The frame that these are all of the unstuffed levels of.
+/// The frame whose unstuffed levels are these.
 pub(crate) fn frame<B: FrameBits>(bits: &B) -> Frame
     requires { HasData (B.levels bits.now) }
     ensures { result ≡ frame_of (B.levels bits.now) }
@@ -127,7 +127,7 @@ fn identifier<B: FrameBits>(bits: &B) -> Id
     }
 }
 
-/// The data bytes as one number, the first of them the highest.
+/// The data bytes as one number, the first of them highest.
 fn data_number<B: FrameBits>(bits: &B) -> u64
     requires { HasData (B.levels bits.now) }
     ensures small { let u = B.levels bits.now in result < 2 ^ (8 * byte_count_of (remote_of u) (dlc_of u)) }

@@ -1,4 +1,4 @@
-//! A run of equal levels, as the row of the table of steps that stands for it.
+//! A run of equal levels, kept as a row of the step table.
 ghost use Rattle.std.specs.Prelude.{◌≡◌, ◌==◌, ◌<◌};
 ghost use Rattle.can_wire.specs.Stuffing.{run_after as run_after_of};
 ghost use Rattle.can_code.specs.Steps.{run_at};
@@ -6,11 +6,11 @@ ghost use Rattle.can_code.specs.Steps.{run_at};
 use can_frame::Level;
 use std::marker::Model;
 
-/// How many lengths a run may have.
+/// The number of run lengths.
 const RUNS: u8 = 5;
 
-/// A level, and how many levels up to it, in a row, equal it: one to five. It is kept as a row of the table of steps,
-/// since nearly all of what is asked of it is the place of the next step.
+/// A level, and the length of the run of equal levels that it ends: one to five. It is kept as a row of the step
+/// table, since nearly all callers need the index of the next step.
 #[derive(Clone, Copy)]
 pub(crate) struct Run {
     row: u8,
@@ -44,7 +44,7 @@ impl Run {
         }
     }
 
-    /// The run that a row of the table stands for.
+    /// The run that a row of the table represents.
     #[inline]
     pub(crate) fn at(row: u8) -> Run
         requires { row < 10 }
@@ -53,7 +53,7 @@ impl Run {
         Run { row }
     }
 
-    /// Its row of the table.
+    /// The row of the table for this run.
     #[inline]
     pub(crate) fn row(self) -> u8
         ensures range { result < 10 }
@@ -62,7 +62,7 @@ impl Run {
         self.row
     }
 
-    /// Its level.
+    /// The level of the run.
     #[inline]
     pub(crate) fn level(self) -> Level
         ensures { result ≡ self.last }
@@ -70,7 +70,7 @@ impl Run {
         Level::from_bool(self.row >= RUNS)
     }
 
-    /// Whether a stuff bit stands behind it.
+    /// Whether a stuff bit follows this run.
     #[inline]
     pub(crate) fn is_longest(self) -> bool
         ensures { result ≡ (self.run == 5) }
@@ -78,7 +78,7 @@ impl Run {
         self.row == RUNS - 1 || self.row == 2 * RUNS - 1
     }
 
-    /// With one level more behind it, or the run that this level begins.
+    /// This run with one more level, or the run that this level begins.
     #[inline]
     pub(crate) fn and(self, level: Level) -> Run
         requires { self.run < 5 }

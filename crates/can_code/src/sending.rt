@@ -7,8 +7,8 @@ use can_frame::{Frame, Level};
 use can_wire::{FrameBits, Heard, PackedBits, head_and_crc};
 use std::marker::Model;
 
-/// A frame that is being sent: it tells each of its unstuffed levels by place. They are worked out once, and
-/// tell the frame too. (Bosch CAN 2.0 part B, section 3.2.1)
+/// The unstuffed levels of a frame that is being transmitted. They are computed once, and also determine the
+/// frame. (Bosch CAN 2.0 part B, section 3.2.1)
 #[derive(Clone, Copy, Debug)]
 pub struct Sending {
     levels: PackedBits,
@@ -33,7 +33,7 @@ impl Model for Sending {
 }
 
 impl Sending {
-    /// The sender of this frame.
+    /// Returns the unstuffed levels of this frame as it is sent.
     pub fn new(frame: &Frame) -> Sending
         ensures { result ≡ frame.now }
     {
@@ -50,8 +50,8 @@ impl Sending {
         frame(&self.levels)
     }
 
-    /// The unstuffed level at a place: the start of frame stands at place 0, and behind the CRC
-    /// sequence all count as dominant.
+    /// Returns the unstuffed level at a place. The start of frame is at place 0. All places after the CRC
+    /// sequence count as dominant.
     #[inline]
     pub fn level_at(&self, place: usize) -> Level
         ensures { result ≡ sent_level self.now place }

@@ -6,28 +6,28 @@ ghost use Rattle.can_code.specs.Steps.{begun, step_entry, in_table, row_last, ro
 
 use table::STEPS;
 
-/// How many levels a step takes at most.
+/// The maximum number of levels that a step takes.
 pub(crate) const STEP_LEVELS: usize = 8;
 
-/// How many rows the table has.
+/// The number of rows of the table.
 const ROWS: usize = 10;
 
-/// The entry where a stuff place repeats the level before it.
+/// The entry for levels with a wrong stuff bit.
 const NO_STEP: u16 = 0xffff;
 
 /// Levels of a stuffed part that were taken at once, without their stuff bits.
 #[derive(Clone, Copy)]
 pub(crate) struct TableStep {
-    /// The unstuffed levels, as a number whose bits they are, the first of them the highest.
+    /// The unstuffed levels as the bits of a number, the first level highest.
     pub(crate) number: u8,
-    /// How many they are.
+    /// The number of unstuffed levels.
     pub(crate) len: u8,
-    /// The table's row behind them.
+    /// The row of the table for the following levels.
     pub(crate) row: u8,
 }
 
-/// Takes the `count` lowest bits of a number as levels, the lowest first, by this row of the table. `None` where
-/// a stuff place repeats the level before it.
+/// Takes the `count` lowest bits of a number as levels, the lowest first, from this row of the table. Returns
+/// `None` if a stuff bit has the level of the bit before it.
 #[inline]
 pub(crate) fn take_step(row: u8, levels: u64, count: usize) -> Option<TableStep>
     requires row { row < 10 }
@@ -45,7 +45,7 @@ pub(crate) fn take_step(row: u8, levels: u64, count: usize) -> Option<TableStep>
     })
 }
 
-/// What the table has for these levels. A bit above them says how many they are.
+/// The table entry for these levels. A bit above them marks their number.
 #[inline]
 fn entry(row: u8, levels: u64, count: usize) -> u16
     requires row { row < 10 }

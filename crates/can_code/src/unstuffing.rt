@@ -10,33 +10,33 @@ use crate::run::Run;
 use crate::steps::{STEP_LEVELS, take_step};
 use can_frame::Level;
 
-/// How many unstuffed levels tell the length of a standard frame: all that stand before its data.
+/// The number of unstuffed levels that determine the length of a standard frame: all before its data.
 const STANDARD_HEADER: usize = 19;
 
-/// How many unstuffed levels a frame has at least.
+/// The minimum number of unstuffed levels of a frame.
 const SHORTEST: usize = 34;
 
-/// The same for an extended frame.
+/// The minimum number of unstuffed levels of an extended frame.
 const SHORTEST_EXTENDED: usize = 54;
 
-/// How many unstuffed levels are gathered in a number at once.
+/// The number of unstuffed levels that one number takes.
 pub(crate) const NUMBER_BITS: usize = 64;
 
 /// Levels of a stuffed part, without their stuff bits.
 #[derive(Clone, Copy)]
 pub(crate) struct UnstuffedRun {
-    /// The unstuffed levels, as a number whose bits they are, the first of them the highest.
+    /// The unstuffed levels as the bits of a number, the first level highest.
     pub(crate) number: u64,
-    /// How many they are.
+    /// The number of unstuffed levels.
     pub(crate) len: usize,
     /// The run that the last level ends, which may be a stuff bit.
     pub(crate) behind: Run,
-    /// How many levels were taken, stuff bits among them.
+    /// How many levels were taken, stuff bits included.
     pub(crate) taken: usize,
 }
 
 impl UnstuffedRun {
-    /// None so far, behind this run.
+    /// No levels so far, after this run.
     #[inline]
     fn begin(before: Run) -> UnstuffedRun
         ensures { result ≡ record { number = 0; len = 0; behind = before; taken = 0 } }
@@ -50,8 +50,8 @@ impl UnstuffedRun {
     }
 }
 
-/// How many unstuffed levels may come behind `len` of them before the check sequence can be whole, as far
-/// as they tell the frame's length. Where they do not tell it, and are many, the frame is extended.
+/// How many unstuffed levels may follow `len` of them before the CRC sequence is whole, as far as they determine the
+/// frame's length. If there are many and they do not determine it, the frame is extended.
 #[inline]
 pub(crate) fn room_behind(len: usize, told: Option<usize>) -> usize
     ensures bound { result ≤ 64 }
@@ -65,9 +65,14 @@ pub(crate) fn room_behind(len: usize, told: Option<usize>) -> usize
     end.saturating_sub(len).min(NUMBER_BITS)
 }
 
-/// Takes levels from the front of these digits behind a run, until there are `room` unstuffed ones, or a byte is no
-/// digit, or a stuff place repeats the level before it. It may stop sooner, but takes some where it can. If it `waits`, it
-/// leaves what room there is behind whole blocks to the next call, which may have room for a block again.
+/// Takes levels from the front of these digits, after a run, until one of these is true:
+///
+/// - there are `room` unstuffed levels;
+/// - a byte is not a digit;
+/// - a stuff bit has the level of the bit before it.
+///
+/// It may stop earlier, but takes some if it can. If it `waits`, it leaves the space after whole blocks to the next
+/// call, which may have space for a block again.
 #[inline]
 pub(crate) fn unstuff(digits: &[u8], room: usize, waits: bool, before: Run) -> UnstuffedRun
     requires wide { room ≤ 64 }
@@ -83,7 +88,7 @@ pub(crate) fn unstuff(digits: &[u8], room: usize, waits: bool, before: Run) -> U
     }
 }
 
-/// The same, up to eight levels in a step. It stops where no block of bytes is left.
+/// Takes up to eight levels a step. It stops if no block of bytes is left.
 #[inline]
 fn unstuff_steps(digits: &[u8], room: usize, waits: bool, before: Run) -> UnstuffedRun
     requires wide { room ≤ 64 }
@@ -101,18 +106,18 @@ fn unstuff_steps(digits: &[u8], room: usize, waits: bool, before: Run) -> Unstuf
 /// Levels that steps have taken.
 #[derive(Clone, Copy)]
 struct StepRun {
-    /// The unstuffed levels, as a number.
+    /// The unstuffed levels as a number.
     number: u64,
-    /// How many they are.
+    /// The number of unstuffed levels.
     len: usize,
-    /// The row of the table of steps behind them.
+    /// The row of the step table for the following levels.
     row: u8,
-    /// How many levels were taken, stuff bits among them.
+    /// How many levels were taken, stuff bits included.
     taken: usize,
 }
 
 impl StepRun {
-    /// None so far, at this row.
+    /// No levels so far, at this row.
     #[inline]
     fn begin(row: u8) -> StepRun
         ensures { result ≡ record { number = 0; len = 0; row = row; taken = 0 } }
@@ -126,8 +131,8 @@ impl StepRun {
     }
 }
 
-/// These levels with `count` more behind them, the lowest bits of a number, of which the lowest comes first. `None` where a
-/// stuff place repeats the level before it.
+/// These levels followed by `count` more, the lowest bits of a number, the lowest first. Returns `None` if a stuff bit
+/// has the level of the bit before it.
 #[inline]
 fn step_behind(now: StepRun, levels: u64, count: usize) -> Option<StepRun>
     requires row { now.row < 10 }
@@ -153,7 +158,7 @@ fn step_behind(now: StepRun, levels: u64, count: usize) -> Option<StepRun>
     })
 }
 
-/// The same from row to row of the table of steps.
+/// Takes up to eight levels a step, from row to row of the step table.
 #[inline]
 fn unstuff_rows(digits: &[u8], room: usize, waits: bool, row: u8) -> StepRun
     requires wide { room ≤ 64 }
@@ -182,8 +187,8 @@ fn unstuff_rows(digits: &[u8], room: usize, waits: bool, row: u8) -> StepRun
     now
 }
 
-/// The same by whole blocks, two steps in each. It stops where a block has a byte that is no digit, or where there may be no
-/// room for all of its levels.
+/// Takes whole blocks, two steps in each. It stops if a block has a byte that is not a digit, or if there may be no
+/// space for all of its levels.
 #[inline]
 fn unstuff_blocks(digits: &[u8], room: usize, row: u8) -> StepRun
     requires wide { room ≤ 64 }
@@ -211,7 +216,7 @@ fn unstuff_blocks(digits: &[u8], room: usize, row: u8) -> StepRun
     now
 }
 
-/// The same, level by level.
+/// Takes level by level.
 fn unstuff_levels(digits: &[u8], room: usize, before: Run) -> UnstuffedRun
     requires wide { room ≤ 64 }
     requires some { 1 ≤ before.run }

@@ -70,7 +70,7 @@ after_level-le Recessive c = by_test (ltb c.row 10)
 ends_bus_off-test : (x : Level) (c : ConfineParts) → is_bus_off c ≡ true → ends_bus_off x c ≡ leb 128 (after_level x c).occurrences
 ends_bus_off-test x c off = ap (λ b. b && leb 128 (after_level x c).occurrences) off
 
--- p is what c, which is bus off, holds behind levels that don't end it
+-- p is the state of c, which is bus off, after levels that do not end it
 pub record IsWaiting (c : ConfineParts) (l : List Level) (p : ConfineParts) : Type 0 where
   pub off : state_of c ≡ BusOff
   pub here : p ≡ after_levels c l

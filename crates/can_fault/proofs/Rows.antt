@@ -27,7 +27,7 @@ counters tec rec = record fresh { tec = tec; rec = rec }
 receiver_error : counted ReceiverError (counters 20 50) ≡ counters 20 51
 receiver_error = refl
 
--- a bit error in an own flag, a dominant level behind the error flag, and eight of them count 8
+-- a bit error in the own flag, a dominant level after the error flag, and eight of them count 8
 receiver_flag_bit : counted ReceiverFlagBit (counters 20 50) ≡ counters 20 58
 receiver_flag_bit = refl
 

@@ -8,11 +8,11 @@ use Rattle.can_frame.specs.declared.level.Level.TheVariants.{Dominant, Recessive
 use Rattle.can_frame.specs.Levels.{is_recessive}
 use Rattle.can_fault.specs.Recovery.{runs_from, recessive_runs, occurrences_in, last_run}
 
--- the occurrences in levels, behind n recessive ones
+-- the occurrences in levels, after n recessive ones
 abbrev occurrences_from : ℕ → List Level → ℕ
 occurrences_from n levels = sum_by (λ m. m / 11) (runs_from n levels)
 
--- the recessive run that ends levels, behind n recessive ones
+-- the recessive run that ends levels, after n recessive ones
 abbrev run_from : ℕ → List Level → ℕ
 run_from n [] = n
 run_from n (Dominant ∷ levels) = run_from 0 levels
@@ -76,7 +76,7 @@ pub occurrences_in-dominant : (l : List Level) → occurrences_in (l ++ Dominant
 unfolding occurrences_in
 occurrences_in-dominant l = occurrences_from-push_dominant 0 l
 
--- an occurrence more where the last run reaches the next multiple of eleven
+-- one more occurrence if the last run reaches the next multiple of eleven
 pub occurrences_in-recessive : (l : List Level) → occurrences_in (l ++ Recessive ∷ []) + last_run l / 11 ≡ occurrences_in l + (last_run l + 1) / 11
 unfolding occurrences_in last_run
 occurrences_in-recessive l =

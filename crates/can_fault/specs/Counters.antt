@@ -1,5 +1,5 @@
--- Fault confinement: the two error counters of a node, what changes them, and the state that they make.
--- (Bosch CAN 2.0 part B, section 8)
+-- Fault confinement: the two error counters of a node, what changes them, and the state that follows from them. (Bosch
+-- CAN 2.0 part B, section 8)
 use Rattle.std.specs.Prelude.{ℕ, ◌≡◌, ◌+◌, ◌-◌, ◌<◌, min, nat_le, Bool, ◌||◌, if◌then◌else◌}
 use Rattle.can_frame.specs.IdleRow.{idle_row}
 use Rattle.can_fault.specs.declared.cause.Cause.{Cause}
@@ -7,9 +7,8 @@ use Rattle.can_fault.specs.declared.cause.Cause.TheVariants.{ReceiverError, Rece
 use Rattle.can_fault.specs.declared.state.State.{State}
 use Rattle.can_fault.specs.declared.state.State.TheVariants.{Active, Passive, BusOff}
 
--- the transmit error counter; the receive error counter; and while the node is bus off, how many
--- occurrences of eleven recessive levels it has seen, and how many recessive levels in a row since the
--- last one
+-- the transmit error counter (TEC); the receive error counter (REC); and while the node is bus off, the number of
+-- occurrences of eleven recessive levels, and of recessive levels in a row since the last one
 pub record ConfineParts : Type 0 where
   pub tec : ℕ
   pub rec : ℕ
@@ -28,23 +27,24 @@ is_bus_off c = nat_le 256 c.tec
 abbrev pub is_passive : ConfineParts → Bool
 is_passive c = nat_le 128 c.tec || nat_le 128 c.rec
 
--- bus off, else error passive where a counter is at least 128, else error active
+-- the state: bus off if TEC is at least 256; otherwise error passive if a counter is at least 128; otherwise error
+-- active
 abbrev pub state_of : ConfineParts → State
 state_of c = if is_bus_off c then BusOff else if is_passive c then Passive else Active
 
--- n more on the TEC
+-- TEC increased by n
 abbrev pub sender_raised : ℕ → ConfineParts → ConfineParts
 sender_raised n c = record c { tec = c.tec + n }
 
--- n more on the REC, which stops at 255
+-- REC increased by n, at most to 255
 abbrev pub receiver_raised : ℕ → ConfineParts → ConfineParts
 receiver_raised n c = record c { rec = min (c.rec + n) 255 }
 
--- the REC after a good reception: above 127 it becomes 127, else it falls by one, and 0 stays
+-- REC after a successful reception: 127 if it was above 127; otherwise one less, and 0 stays
 abbrev pub rec_after_reception : ℕ → ℕ
 rec_after_reception rec = if nat_le 128 rec then 127 else rec - 1
 
--- what a cause changes
+-- the counters after a cause
 abbrev pub changed : Cause → ConfineParts → ConfineParts
 changed ReceiverError c = receiver_raised 1 c
 changed ReceiverFlagBit c = receiver_raised 8 c
@@ -57,12 +57,12 @@ changed PassiveUnacknowledged c = sender_raised 8 c
 changed FrameSent c = record c { tec = c.tec - 1 }
 changed FrameReceived c = record c { rec = rec_after_reception c.rec }
 
--- a cause is counted unless the node is bus off
+-- a cause is counted, except while the node is bus off
 abbrev pub counted : Cause → ConfineParts → ConfineParts
 counted cause c = if is_bus_off c then c else changed cause c
 
--- what holds of every node: the cause that makes it bus off adds 8 to a TEC of at most 255, and it waits
--- to recover only while it is bus off
+-- what is true of every node: the cause that makes it bus off adds 8 to a TEC of at most 255, and it counts recovery
+-- only while it is bus off
 pub record IsConfine (c : ConfineParts) : Type 0 where
   pub tec : c.tec < 264
   pub rec : c.rec < 256

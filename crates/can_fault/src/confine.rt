@@ -7,20 +7,19 @@ use crate::state::State;
 use can_frame::{IDLE_ROW, Level};
 use std::marker::Model;
 
-/// A node is error passive where a counter has this value or more.
+/// A node is error passive if a counter is at least 128.
 const PASSIVE_FROM: u16 = 128;
 
-/// A node is bus off where its TEC has this value or more.
+/// A node is bus off if its TEC is at least 256.
 const BUS_OFF_FROM: u16 = 256;
 
-/// REC goes no higher.
+/// The maximum of REC.
 const HIGHEST_REC: u16 = 255;
 
-/// Bus off ends with the occurrence of this number.
+/// The number of occurrences of eleven recessive levels that end bus off.
 const OCCURRENCES: u8 = 128;
 
-/// The error counters of a node, and how far it has come back from bus off. (Bosch CAN 2.0 part B,
-/// section 8)
+/// The error counters of a node, and its progress in recovery from bus off. (Bosch CAN 2.0 part B, section 8)
 #[derive(Clone, Copy, Debug, Default, PartialEq, Eq)]
 pub struct Confine {
     tec: u16,
@@ -44,7 +43,7 @@ impl Model for Confine {
 }
 
 impl Confine {
-    /// A node that has counted no error.
+    /// Returns the counters of a node that has counted no error.
     pub fn new() -> Self
         ensures { result ≡ fresh }
     {
@@ -72,8 +71,8 @@ impl Confine {
         self.rec
     }
 
-    /// How many occurrences of eleven recessive levels it has seen since it became bus off, 0 to 127; 0 in any
-    /// other state.
+    /// The number of occurrences of eleven recessive levels since the node became bus off, 0 to 127. It is 0
+    /// in any other state.
     pub fn occurrences(&self) -> u8
         ensures value { result ≡ self.now.occurrences }
         ensures range { result < 128 }
@@ -81,7 +80,7 @@ impl Confine {
         self.occurrences
     }
 
-    /// The state that the counters make.
+    /// Returns the state that follows from the counters.
     pub fn state(&self) -> State
         ensures value { result ≡ state_of self.now }
         ensures active { (result ≡ State.Active) ↔ ((self.now.tec ≤ 127) × (self.now.rec ≤ 127)) }
@@ -97,7 +96,7 @@ impl Confine {
         }
     }
 
-    /// Counts what a cause changes (section 8): nothing while the node is bus off.
+    /// Changes the counters for this cause (section 8). Nothing changes while the node is bus off.
     pub fn apply(&mut self, cause: Cause)
         ensures { self.new ≡ counted cause self.old }
     {
@@ -118,8 +117,8 @@ impl Confine {
         }
     }
 
-    /// Takes one level while the node is bus off: whether bus off ends with it. Then both counters
-    /// are 0, and the node is error active. In any other state nothing changes.
+    /// Takes one level while the node is bus off, and returns whether bus off ends with it. Then both counters
+    /// become 0, and the node is error active. In any other state nothing changes.
     pub fn recover(&mut self, level: Level) -> bool
         ensures value { result ≡ ends_bus_off level self.old }
         ensures after { self.new ≡ recovered level self.old }
@@ -144,9 +143,9 @@ impl Confine {
         ended
     }
 
-    /// Takes levels while the node is bus off, up to the one with which bus off ends: how many they
-    /// are. `None` where bus off doesn't end with any of them, and in any other state, where nothing
-    /// changes.
+    /// Takes levels while the node is bus off, and returns after how many of them bus off ends. Then both
+    /// counters are 0, and the node is error active. Returns `None` if bus off does not end with any of them.
+    /// In any other state it returns `None`, and nothing changes.
     pub fn recover_over(&mut self, levels: &[Level]) -> Option<usize>
         ensures ended { IfSome result (EndsBehind self.old levels.now) }
         ensures cleared { OnSome result (self.new ≡ fresh) }
@@ -165,14 +164,14 @@ impl Confine {
     }
 }
 
-/// REC, raised by errors.
+/// REC after an increase.
 fn raised(rec: u16, errors: u16) -> u16
     ensures { result ≡ min (rec + errors) 255 }
 {
     rec.saturating_add(errors).min(HIGHEST_REC)
 }
 
-/// REC, after a good reception.
+/// REC after a successful reception.
 fn lowered(rec: u16) -> u16
     ensures { result ≡ rec_after_reception rec }
 {

@@ -1,5 +1,5 @@
--- For crates above.
--- what one level more makes of a front that is heard, and of the marks behind it
+-- For other crates.
+-- the effect of one more level on a front and on the marks after it
 pub mod MarkLemmas
 pub mod MarkSteps
 -- For this crate.

@@ -1,4 +1,5 @@
--- What one level more makes of a front that is heard as far as it goes, and of the marks behind it.
+-- The effect of one more level on a front that takes levels as far as it can, and on the marks
+-- after it.
 use Rattle.std.proofs.Common.{◌≡◌, ◌≢◌, suc, ◌-◌, ◌<◌, ◌≤◌, Bool, true, false, Option, Some, None, List, [], ◌∷◌, ◌&&◌, length, take, refl, ◌∙◌, ap, subst, arith, cond}
 use Rattle.std.specs.Option.{unwrap_or, option_map}
 use Rattle.std.proofs.Math.Dec.{eqb}
@@ -38,13 +39,13 @@ hear_at-wrong f x CrcDelimiter at wrong = refl
 pub heard_to-wrong : (f : FrontParts) (x : Level) (xs : List Level) → is_stuff_error f x ≡ true → heard_to f (x ∷ xs) ≡ f
 heard_to-wrong f x xs wrong = ap (λ o. unwrap_or (option_map (λ g. heard_to g xs) o) f) (hear_at-wrong f x (next_place f) refl wrong)
 
--- what a test for a bit tells
+-- what follows from a test for a bit
 pub is_bit : (p : Place) → sameb the_type p Bit ≡ true → p ≡ Bit
 is_bit StuffBit h = cc
 is_bit Bit h = refl
 is_bit CrcDelimiter h = cc
 
--- there is room for a level that is no stuff bit
+-- there is space for a level that is not a stuff bit
 pub room_at_bit : (f : FrontParts) → IsFront f → next_place f ≡ Bit → length f.unstuffed < 118
 room_at_bit f h at = by_tests (eqb f.run 5) (has_check f.unstuffed) refl refl at
   where
@@ -71,7 +72,7 @@ heard_to-longer (x ∷ xs) f = by_next (hear_at (next_place f) f x) refl (λ g. 
     by_next None at rest = omega arith
     by_next (Some g) at rest = omega (arith, hear_at-longer f g x (next_place f) at, rest g)
 
--- ---- the marks behind a front
+-- ---- the marks after a front
 
 module _ (u : List Level) (f : FrontParts) (x : Level) (xs : List Level) where
   pub marks_behind-bit : next_place f ≡ Bit → marks_behind u f (x ∷ xs) ≡ bit_of (field_at u (length f.unstuffed)) ∷ marks_behind u (heard_level f x) xs

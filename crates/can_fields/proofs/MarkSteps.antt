@@ -12,7 +12,7 @@ use Rattle.can_fields.specs.Marks.{bit_of, stuff_bit_of, heard_to, marks_behind,
 use Rattle.can_fields.proofs.MarkLemmas.{marks_behind-bit, marks_behind-stuff, marks_behind-ended}
 
 module _ (written whole : List Mark) (u : List Level) (f : FrontParts) (x : Level) (xs : List Level) (told : written ++ marks_behind u f (x ∷ xs) ≡ whole) where
-  -- one more, with these behind it
+  -- one more, with these after it
   more : (y : Mark) (rest : List Mark) → marks_behind u f (x ∷ xs) ≡ y ∷ rest → (written ++ y ∷ []) ++ rest ≡ whole
   more y rest first = append_assoc written (y ∷ []) rest ∙ ap (λ t. written ++ t) (sym first) ∙ told
 

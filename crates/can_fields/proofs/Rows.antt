@@ -16,7 +16,7 @@ levels digits = map (λ c. level_of (c % 48)) digits
 abbrev tail : List Mark
 tail = bit_of CheckDelimiter ∷ bit_of AckSlot ∷ bit_of AckDelimiter ∷ replicate 7 (bit_of EndOfFrame)
 
--- four bits and a stuff bit, of the check sequence
+-- four bits and a stuff bit of the CRC sequence
 abbrev five_checks : List Mark
 five_checks = replicate 5 (bit_of CheckSequence) ++ stuff_bit_of CheckSequence ∷ []
 
@@ -28,7 +28,7 @@ standard : marks_of (levels (codes "00000100000100000100000100000100000100001111
 unfolding marks_of frame_len
 standard = refl
 
--- `E 15555555 D 1 aa`, with levels in the place of its check sequence that alternate
+-- `E 15555555 D 1 aa`, with alternating levels as its CRC sequence
 extended : marks_of (levels (codes "0101010101011101010101010101010100000101101010101010101010101011011111111"))
     ≡ bit_of StartOfFrame ∷ (replicate 11 (bit_of Identifier) ++ bit_of SubstituteRequest ∷ bit_of IdentifierExtension ∷ (replicate 18 (bit_of Identifier)
     ++ bit_of RemoteRequest ∷ bit_of ReservedOne ∷ bit_of ReservedZero ∷ bit_of DataLength ∷ bit_of DataLength ∷ stuff_bit_of DataLength ∷ bit_of DataLength ∷ bit_of DataLength ∷ (replicate 8 (bit_of Data)
@@ -43,7 +43,7 @@ remote : marks_of (levels (codes "01010101010110010001010101010101011011111111")
 unfolding marks_of frame_len
 remote = refl
 
--- a wrong stuff bit: nothing is told behind it
+-- a wrong stuff bit: no marks after it
 wrong : marks_of (levels (codes "0000001111")) ≡ bit_of StartOfFrame ∷ (replicate 4 (bit_of Identifier) ++ stuff_bit_of Identifier ∷ [])
 unfolding marks_of frame_len
 wrong = refl

@@ -1,10 +1,10 @@
--- The field in which each place of a frame's unstuffed levels stands. (Bosch CAN 2.0 part B, section 3.2.1)
+-- The field of each place of a frame's unstuffed levels. (Bosch CAN 2.0 part B, section 3.2.1)
 --
---     place       0     1..11        12    13    14    15..18
---     standard    SOF   identifier   RTR   IDE   r0    data length code, then data and check sequence
+--     place    0    1..11        12    13    14   15..18
+--     standard SOF  identifier   RTR   IDE   r0   data length code, then data and CRC sequence
 --
---     place       0     1..11        12    13    14..31       32    33   34   35..38
---     extended    SOF   identifier   SRR   IDE   identifier   RTR   r1   r0   data length code, then the same
+--     place    0    1..11        12    13    14..31       32    33   34   35..38
+--     extended SOF  identifier   SRR   IDE   identifier   RTR   r1   r0   data length code, then data and CRC sequence
 use Rattle.std.specs.Prelude.{ℕ, ◌+◌, ◌*◌, ◌==◌, nat_lt, if◌then◌else◌, List, length}
 use Rattle.can_frame.specs.declared.level.Level.{Level}
 use Rattle.can_frame.specs.Parts.{byte_count}
@@ -16,8 +16,8 @@ use Rattle.can_fields.specs.declared.field.Field.TheVariants.{StartOfFrame, Iden
 abbrev pub data_levels : List Level → ℕ
 data_levels u = 8 * byte_count (remote_of u) (dlc_of u)
 
--- Behind the IDE bit, where the RTR bit has this place: the rest of an extended identifier, RTR, and in an extended
--- frame r1; then r0, four levels of the data length code, the data and the check sequence.
+-- The field of a place after the IDE bit, if the RTR bit is at place rtr: the rest of an extended identifier, RTR, and
+-- in an extended frame r1; then r0, four levels of the data length code, the data and the CRC sequence.
 abbrev pub field_from_rtr : List Level → ℕ → ℕ → Field
 field_from_rtr u rtr place =
     if nat_lt place rtr then Identifier

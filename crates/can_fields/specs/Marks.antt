@@ -1,5 +1,5 @@
--- What each level of a frame on the wire is: the field in which it stands, and whether it is a stuff bit. The levels
--- are heard one by one, as `can_code/specs/Front.antt` says. (Bosch CAN 2.0 part B, sections 3.2.1 and 6)
+-- The field of each level of a frame on the bus, and whether it is a stuff bit. The levels are received one by one, as
+-- defined in `can_code/specs/Front.antt`. (Bosch CAN 2.0 part B, sections 3.2.1 and 6)
 use Rattle.std.specs.Prelude.{ℕ, suc, ◌-◌, true, false, if◌then◌else◌, List, [], ◌∷◌, length, map, take, unwrap_or, option_map}
 use Rattle.can_frame.specs.declared.level.Level.{Level}
 use Rattle.can_frame.specs.declared.level.Level.TheVariants.{Dominant, Recessive}
@@ -11,27 +11,27 @@ use Rattle.can_fields.specs.declared.field.Field.TheVariants.{StartOfFrame, Chec
 use Rattle.can_fields.specs.declared.mark.Mark.{Mark}
 use Rattle.can_fields.specs.Fields.{field_at}
 
--- a level that is no stuff bit
+-- the mark of a level that is not a stuff bit
 abbrev pub bit_of : Field → Mark
 bit_of field = record { field = field; stuffed = false }
 
--- a stuff bit
+-- the mark of a stuff bit
 abbrev pub stuff_bit_of : Field → Mark
 stuff_bit_of field = record { field = field; stuffed = true }
 
--- the ten levels behind the stuffed part
+-- the marks of the ten levels after the stuffed part
 abbrev pub tail_marks : List Mark
 tail_marks = map bit_of (
     CheckDelimiter ∷ AckSlot ∷ AckDelimiter ∷ EndOfFrame ∷ EndOfFrame ∷ EndOfFrame ∷ EndOfFrame ∷
     EndOfFrame ∷ EndOfFrame ∷ EndOfFrame ∷ [])
 
--- the front that levels make, as far as they can be heard: up to a wrong stuff bit or the end of the stuffed part
+-- the front after these levels, as far as it takes them: before a wrong stuff bit or the end of the stuffed part
 abbrev pub heard_to : FrontParts → List Level → FrontParts
 heard_to f [] = f
 heard_to f (x ∷ xs) = unwrap_or (option_map (λ g. heard_to g xs) (hear_at (next_place f) f x)) f
 
--- Marks from a level x on, where f has been heard before it, `more` levels follow it, and these are their marks. A stuff
--- bit stands in the field of the level before it; behind a wrong one nothing is told.
+-- The marks from a level x on. The front before it is f, `more` levels follow it, and `rest` are their marks. A stuff
+-- bit has the field of the level before it; after a wrong one there are no marks.
 abbrev pub marks_at : Place → List Level → FrontParts → Level → ℕ → List Mark → List Mark
 marks_at StuffBit u f x more rest =
     stuff_bit_of (field_at u (length f.unstuffed - 1))
@@ -39,7 +39,7 @@ marks_at StuffBit u f x more rest =
 marks_at Bit u f x more rest = bit_of (field_at u (length f.unstuffed)) ∷ rest
 marks_at CrcDelimiter u f x more rest = take (suc more) tail_marks
 
--- the marks of levels behind a front, in a frame whose unstuffed levels begin with u
+-- the marks of levels after a front, in a frame whose unstuffed levels begin with u
 abbrev pub marks_behind : List Level → FrontParts → List Level → List Mark
 marks_behind u f [] = []
 marks_behind u f (x ∷ xs) = marks_at (next_place f) u f x (length xs) (marks_behind u (heard_level f x) xs)

@@ -11,10 +11,11 @@ pub enum Field {
     /// The start of frame (SOF).
     #[default]
     StartOfFrame,
-    /// The identifier: all of a standard one; of an extended one the eleven highest bits, and the rest behind IDE.
+    /// The identifier: all of a standard one; of an extended one the eleven highest bits, and the others after the
+    /// IDE bit.
     Identifier,
-    /// The place behind the first eleven bits of the identifier, where the levels end before the IDE bit tells
-    /// whether it is the RTR bit or the SRR bit.
+    /// The bit after the first eleven bits of the identifier, if the levels end before the IDE bit. Only the IDE
+    /// bit shows whether it is the RTR or the SRR bit.
     RemoteOrSubstitute,
     /// The RTR bit.
     RemoteRequest,
@@ -42,10 +43,10 @@ pub enum Field {
     EndOfFrame,
 }
 
-/// Where the IDE bit stands.
+/// The place of the IDE bit.
 const IDE_PLACE: usize = 13;
 
-/// The field in which an unstuffed place stands, in the frame that begins with these levels. The start of frame has
+/// Returns the field of an unstuffed place, in the frame that begins with these levels. The start of frame has
 /// place 0. (Bosch CAN 2.0 part B, section 3.2.1)
 pub fn field_at<B: FrameBits>(bits: &B, place: usize) -> Field
     requires { place ≤ length (B.levels bits.now) }
@@ -73,7 +74,7 @@ fn behind_identifier<B: FrameBits>(bits: &B) -> Field
     }
 }
 
-/// The field of a place behind the IDE bit.
+/// The field of a place after the IDE bit.
 fn field_behind_ide<B: FrameBits>(bits: &B, place: usize) -> Field
     requires behind { 14 ≤ place }
     requires within { place ≤ length (B.levels bits.now) }
@@ -97,7 +98,7 @@ fn field_behind_ide<B: FrameBits>(bits: &B, place: usize) -> Field
     }
 }
 
-/// How many data bytes the frame has, whose RTR bit stands at this place.
+/// The number of data bytes of the frame whose RTR bit is at this place.
 fn byte_count<B: FrameBits>(bits: &B, rtr: usize) -> usize
     requires place { rtr ≡ rtr_place_of (extended_of (B.levels bits.now)) }
     requires within { rtr + 7 ≤ length (B.levels bits.now) }

@@ -1,13 +1,13 @@
-//! The fields of a frame on the wire: what each of its levels is.
+//! The field and kind of each level of a frame.
 //!
-//! [`marks`] takes levels that begin with a start of frame, heard one by one as can_code hears them, and tells of each
-//! the [`Field`] in which it stands and whether it is a stuff bit. A list need not be a whole frame: where a stuff
-//! place repeats the level before it, or the levels end, nothing is told of what follows.
+//! [`marks`] takes levels that begin with a start of frame, received one by one as in can_code. For each level it
+//! returns the [`Field`] that it belongs to, and whether it is a stuff bit. The levels need not be a whole frame.
+//! After a wrong stuff bit there are no marks.
 //!
 //! | File | What it has | Defined in |
 //! |---|---|---|
-//! | `field.rt` | [`Field`], a part of a frame, and [`field_at`], that of an unstuffed place | `specs/Fields.antt` |
-//! | `mark.rt` | [`Mark`], what a level on the wire is, and [`marks`], those of levels | `specs/Marks.antt` |
+//! | `field.rt` | [`Field`], a part of a frame, and [`field_at`], the field of an unstuffed place | `specs/Fields.antt` |
+//! | `mark.rt` | [`Mark`], the field of a level and whether it is a stuff bit, and [`marks`], those of levels | `specs/Marks.antt` |
 #![tactic(auto)]
 
 mod field;

@@ -8,19 +8,19 @@ use arrayvec::ArrayVec;
 use can_code::{FrameBits, Front, PackedBits, Place, PlainBits};
 use can_frame::Level;
 
-/// No frame has more levels than an extended one of eight bytes with all stuff bits.
+/// The maximum number of levels of a frame: an extended one with eight bytes and all possible stuff bits.
 pub const MOST_LEVELS: usize = 157;
 
-/// What a level of a frame on the wire is.
+/// The field of a level of a frame, and whether it is a stuff bit.
 #[derive(Clone, Copy, Debug, Default, PartialEq, Eq)]
 pub struct Mark {
-    /// The field in which it stands: that of the level before it, where it is a stuff bit.
+    /// The field of the level. A stuff bit has that of the level before it.
     pub field: Field,
     /// Whether it is a stuff bit.
     pub stuffed: bool,
 }
 
-/// The ten levels behind the stuffed part.
+/// The fields of the ten levels after the stuffed part.
 const TAIL: [Field; 10] = [
     Field::CheckDelimiter,
     Field::AckSlot,
@@ -34,8 +34,9 @@ const TAIL: [Field; 10] = [
     Field::EndOfFrame,
 ];
 
-/// What the levels are, from a start of frame on. Nothing is told of levels behind the end of frame or behind a wrong
-/// stuff bit, nor of any where the first is recessive. (Bosch CAN 2.0 part B, sections 3.2.1 and 6)
+/// Returns the mark of each level, from a start of frame on. There are none for levels after the end of frame or
+/// after a wrong stuff bit, and none at all if the first level is recessive. (Bosch CAN 2.0 part B, sections 3.2.1
+/// and 6)
 pub fn marks(levels: &[Level]) -> ArrayVec<Mark, 157>
     requires { length levels.now ≤ 157 }
     ensures { result.items ≡ marks_of levels.now }
@@ -52,7 +53,7 @@ pub fn marks(levels: &[Level]) -> ArrayVec<Mark, 157>
     marks
 }
 
-/// The mark of a level that is no stuff bit.
+/// The mark of a level that is not a stuff bit.
 fn bit(field: Field) -> Mark
     ensures { result ≡ record { field = field; stuffed = false } }
 {
@@ -62,7 +63,7 @@ fn bit(field: Field) -> Mark
     }
 }
 
-/// The unstuffed levels of a frame's start of frame and of the levels behind it, as far as they can be heard.
+/// The unstuffed levels of a start of frame and the levels after it, as far as a receiver takes them.
 fn unstuffed(rest: &[Level]) -> PlainBits
     ensures { result ≡ (heard_to first_front rest.now).unstuffed }
 {
@@ -80,7 +81,7 @@ fn unstuffed(rest: &[Level]) -> PlainBits
     bits
 }
 
-/// Appends the marks of the levels behind a start of frame.
+/// Appends the marks of the levels after a start of frame.
 fn push_marks(marks: &mut ArrayVec<Mark, 157>, bits: &PlainBits, rest: &[Level])
     requires room { array_vec_len marks.old + length rest.now ≤ 157 }
     requires bits { bits.now ≡ (heard_to first_front rest.now).unstuffed }
@@ -105,7 +106,7 @@ fn push_marks(marks: &mut ArrayVec<Mark, 157>, bits: &PlainBits, rest: &[Level])
     }
 }
 
-/// Appends the marks of as many levels behind the stuffed part, at most ten.
+/// Appends the marks of `count` levels after the stuffed part, at most ten.
 fn push_tail(marks: &mut ArrayVec<Mark, 157>, count: usize)
     requires { array_vec_len marks.old + count ≤ 157 }
     ensures { marks.new.items ≡ marks.old.items ++ take count tail_marks }

@@ -60,7 +60,7 @@ pub Before-behind : (front a b : List Level) → Before a b → Before (front ++
 Before-behind [] a b h = h
 Before-behind (x ∷ front) a b h = Before-cons x (front ++ a) (front ++ b) (Before-behind front a b h)
 
--- ---- the order as `cmp` answers it
+-- ---- the order that `cmp` returns
 
 pub field_cmp_total : IsTotalOrder field_cmp
 field_cmp_total = lists_total (on_total is_recessive bool_cmp_total)
@@ -119,7 +119,7 @@ Before-number_from (Recessive ∷ a) (Recessive ∷ b) e h =
     let size : 2 ^ length a ≡ 2 ^ length b = ap (λ n. 2 ^ n) (let k : length a ≡ length b = omega arith in k) in
     Before-cons Recessive a b (Before-number_from a b (omega arith) (omega (arith, number_from-split 1 a, number_from-split 1 b, size, h)))
 
--- the answer o tells how two lists are ranked
+-- the result o is the order of two lists
 pub record Tells (a b : List Level) (o : Ordering) : Type 0 where
   pub less : (o ≡ Less) ↔ Before a b
   pub equal : (o ≡ Equal) ↔ (a ≡ b)

@@ -1,4 +1,4 @@
--- The bytes of a number, moved up to stand first among eight.
+-- The bytes of a number, shifted to the front of eight.
 use Rattle.std.proofs.Common.{◌≡◌, ℕ, zero, suc, ◌+◌, ◌-◌, ◌*◌, ◌/◌, ◌%◌, ◌^◌, ◌<◌, ◌≤◌, List, [], ◌∷◌, ◌++◌, length, take, drop, get_or, replicate, refl, sym, ◌∙◌, ap, arith}
 use Rattle.std.specs.Int.{byte_at, bytes_high_first, to_be_bytes, w64}
 use Rattle.std.proofs.Math.Nat.{div-div-eq-div-mul, mul-div_cancel}
@@ -22,7 +22,7 @@ byte_at-quotient : (i n : ℕ) → byte_at i n ≡ n / 256 ^ i % 256
 byte_at-quotient zero n = ap (λ m. m % 256) (let e : n ≡ n / 256 ^ 0 = omega arith in e)
 byte_at-quotient (suc i) n = refl
 
--- zeros behind bytes are bytes
+-- bytes followed by zeros are bytes
 pub filled-small : (bytes : List ℕ) (filling i : ℕ) → ((k : ℕ) → get_or bytes k 0 < 256) → get_or (bytes ++ replicate filling 0) i 0 < 256
 filled-small [] zero i small = omega arith
 filled-small [] (suc filling) zero small = omega arith
@@ -39,7 +39,7 @@ byte_at-up i k n =
     byte_at-quotient (i + k) (n * 256 ^ k) ∙ ap (λ q. q % 256) (split ∙ ap (λ m. m / 256 ^ i) (mul-div_cancel n (power-positive k)))
     ∙ sym (byte_at-quotient i n)
 
--- and zeros stand behind it
+-- and zeros follow it
 zero_byte : (i above n : ℕ) → byte_at i (n * 256 ^ (above + 1 + i)) ≡ 0
 zero_byte i above n =
     let whole : n * 256 ^ (above + 1 + i) ≡ n * 256 ^ above * 256 * 256 ^ i =

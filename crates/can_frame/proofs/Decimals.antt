@@ -71,7 +71,7 @@ most_one text start d small s short longer rest few e = elim (cases_lt longer 10
       (omega arith, digit_below_ten (longer % 10) (omega arith) ∙ sym byte))
 ]
 
--- where a text leaves a first digit, it leaves a DLC's digits
+-- if a text leaves a first digit, it leaves a DLC's digits
 pub decimal_leaves : (kind : TextFaultKind) (text : List ℕ) (start : ℕ) → start ≤ length text → (fault : TextFault)
     → LeavesPart kind (IsHexNumber 1 10) text start fault → LeavesPart kind IsDecimal text start fault
 decimal_leaves kind text start fits fault l =
@@ -103,7 +103,7 @@ decimal_leaves kind text start fits fault l =
           (hex_digits 1 1, (48 + n.0 % 10) ∷ [], (1, omega arith, refl), shape, omega arith)
     ]
 
--- where it leaves a DLC's digits, it leaves the DLC
+-- if it leaves a DLC's digits, it leaves the DLC
 pub dlc_leaves_digits : (kind : TextFaultKind) (remote : Bool) (text : List ℕ) (start : ℕ) → start ≤ length text
     → (fault : TextFault)
     → LeavesPart kind IsDecimal text start fault → LeavesPart kind (IsDlc remote) text start fault
@@ -116,7 +116,7 @@ dlc_leaves_digits kind remote text start fits fault l =
     behind : ℕ → List ℕ
     behind n = cond (byte_count remote n == 0) [] blank
 
--- ---- the blank behind the DLC of a data frame
+-- ---- the space after the DLC of a data frame
 
 pub dlc_one : (n : ℕ) → 0 < n → n < 10 → dlc_spelling false n ≡ (48 + n) ∷ blank
 dlc_one n some h = grind (arith, nat_tests)
@@ -125,7 +125,7 @@ pub dlc_two : (n : ℕ) → 10 ≤ n → dlc_spelling false n ≡ (48 + n / 10) 
 dlc_two n h = grind (arith, nat_tests)
 
 module _ (bytes : List ℕ) (d : ℕ) (some : 0 < d) (most : MostDigits d bytes) where
-  -- every DLC that the bytes begin with goes on in another way than they do behind one digit
+  -- every DLC that the bytes begin with continues differently from one digit
   each_one : d < 10 → take 1 bytes ≡ (48 + d) ∷ [] → (1 < length bytes → get_or bytes 1 0 ≢ 32)
       → (w rest : List ℕ) → IsDlc false w → take 1 (w ++ rest) ≡ take 1 bytes
       → (1 < length w) × (1 < length bytes → get_or w 1 0 ≢ get_or bytes 1 0)
@@ -180,7 +180,7 @@ module _ (bytes : List ℕ) (d : ℕ) (some : 0 < d) (most : MostDigits d bytes)
             (omega (arith, ap length shape), λ more q. other more (sym q ∙ ap (λ t. get_or t 2 0) shape))
       ]
 
--- what a missing blank tells
+-- what follows from a missing space
 blank_missing : (kind : TextFaultKind) (text : List ℕ) (place : ℕ) (fault : TextFault)
     → LeavesPart kind (λ w. blank ≡ w) text place fault
     → (fault.place ≡ place) × (place < length text → get_or text place 0 ≢ 32)

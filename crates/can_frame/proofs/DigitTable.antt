@@ -1,4 +1,4 @@
--- What each byte stands for as a hexadecimal digit, by a table.
+-- The value of each byte as a hexadecimal digit, in a table.
 use Rattle.std.proofs.Common.{◌≡◌, ℕ, ◌<◌, ltb, cond, map, get_or, refl, sym, ◌∙◌, ap, arith}
 use Rattle.std.specs.List.{range_with_len}
 use Rattle.std.proofs.lemmas.Bool.{cond-true, lt-ltb}
@@ -10,7 +10,7 @@ use Rattle.can_frame.specs.declared.text.read.TheConstants.{NUMBER_OF_DIGIT}
 abbrev pub number_of : ℕ → ℕ
 number_of byte = get_or NUMBER_OF_DIGIT byte 0
 
--- a byte again, by its number where it has one
+-- the byte is the digit of its value, if it has one
 abbrev byte_again : ℕ → ℕ
 byte_again byte = cond (ltb (number_of byte) 16) (get_or lower_digits (number_of byte) 0) byte
 

@@ -1,4 +1,4 @@
--- Arbitration fields: how two are ranked, that none begins another, and what a field tells.
+-- Arbitration fields: their order, that none is a prefix of another, and what a field determines.
 use Rattle.std.proofs.Common.{◌≡◌, ℕ, suc, ◌/◌, ◌%◌, ◌^◌, ◌<◌, Bool, true, false, List, [], ◌∷◌, ◌++◌, length, take, drop, refl, sym, ◌∙◌, ap, arith, inl, inr, append_assoc, length-append}
 use Rattle.std.specs.Prelude.{◌↔◌, IsTrue, if◌then◌else◌}
 use Rattle.std.specs.declared.cmp.Ordering.{Ordering}
@@ -14,12 +14,12 @@ use Rattle.can_frame.specs.Arbitration.{standard_field, extended_field, arbitrat
 use Rattle.can_frame.proofs.LevelLemmas.{length-bits_of, number_from-bits_of}
 use Rattle.can_frame.proofs.BeforeLemmas.{Before-append, Before-behind, Ranked, ranked_as_long, Tells, field_cmp-tells}
 
--- how many levels an arbitration field has behind its IDE bit
+-- how many levels an arbitration field has after its IDE bit
 abbrev behind_ide : Level → ℕ
 behind_ide Dominant = 0
 behind_ide Recessive = 19
 
--- the IDE bit is the 13th level and tells how many follow
+-- the IDE bit is the 13th level and determines how many follow
 pub record Shape (field : List Level) : Type 0 where
   pub base : List Level
   pub ide : Level
@@ -109,7 +109,7 @@ shapes_apart a b x y s t e =
 pub fields_apart : (f g : Parts) (x y : List Level) → arbitration_field f ++ x ≡ arbitration_field g ++ y → arbitration_field f ≡ arbitration_field g
 fields_apart f g x y = shapes_apart (arbitration_field f) (arbitration_field g) x y (arbitration_field-shape f) (arbitration_field-shape g)
 
--- ---- what `<` and `cmp` of two frames' keys answer
+-- ---- what `<` and `cmp` of two frames' keys return
 
 pub key_cmp-tells : (f g : Parts) → Tells (arbitration_field f) (arbitration_field g) (field_cmp (arbitration_field f) (arbitration_field g))
 key_cmp-tells f g = field_cmp-tells (arbitration_field f) (arbitration_field g) (fields_ranked f g)
@@ -124,7 +124,7 @@ key_lt-Before f g =
     let tells = key_cmp-tells f g in
     (λ e. tells.less.0 (is_lt-Less (field_cmp (arbitration_field f) (arbitration_field g)) e), λ h. ap is_lt (tells.less.1 h))
 
--- ---- a field tells the identifier and the kind of its frame
+-- ---- a field determines the identifier and the kind of its frame
 
 level_from-back : (b c : Bool) → level_from b ≡ level_from c → b ≡ c
 level_from-back true true e = refl

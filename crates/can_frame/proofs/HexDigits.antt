@@ -23,7 +23,7 @@ hex_digits-add (suc i) j n =
     ∙ ap (λ m. get_or lower_digits (m % 16) 0 ∷ hex_digits (i + j) n) lower
     ∙ ap (λ t. get_or lower_digits (n / 16 ^ j / 16 ^ i % 16) 0 ∷ t) (hex_digits-add i j n)
 
--- one digit tells of the number's lowest four bits
+-- one digit determines the number's lowest four bits
 pub hex_digits-one : (n : ℕ) → hex_digits 1 n ≡ get_or lower_digits (n % 16) 0 ∷ []
 unfolding hex_digits
 hex_digits-one n = ap (λ m. get_or lower_digits (m % 16) 0 ∷ []) (div-one n)
@@ -33,7 +33,7 @@ hex_digits-one_mod n =
     hex_digits-one n ∙ ap (λ m. get_or lower_digits m 0 ∷ []) (let e : n % 16 ≡ n % 16 % 16 = omega arith in e)
     ∙ sym (hex_digits-one (n % 16))
 
--- two digits tell of the lowest byte
+-- two digits determine the lowest byte
 pub two_of_byte : (n : ℕ) → hex_digits 2 n ≡ hex_digits 2 (n % 256)
 unfolding hex_digits
 two_of_byte n =
@@ -50,7 +50,7 @@ hex_digits-push k n d small =
     ∙ ap (λ t. hex_digits k n ++ t) (hex_digits-one (16 * n + d) ∙ ap (λ m. get_or lower_digits m 0 ∷ []) lowest
     ∙ sym (hex_digits-one d))
 
--- digits with any others behind them are those of a number
+-- digits followed by any others are those of a number
 pub hex_digits-shifted : (i j n : ℕ) → hex_digits (i + j) (n * 16 ^ j) ≡ hex_digits i n ++ hex_digits j (n * 16 ^ j)
 hex_digits-shifted i j n =
     let positive : 0 < 16 ^ j = one-le-pow j 16 (omega arith) in

@@ -54,7 +54,7 @@ kept_before m n kept_m kept_n less =
 Keeps-before : {m n : ℕ} {a b : List Level} → Keeps m a → Keeps n b → m < n → Before a b
 Keeps-before {m} {n} x y less = rw (← x.is, ← y.is) (kept_before m n x.kept y.kept less)
 
--- what the comparison of two keys' bits answers
+-- what the comparison of two keys' bits returns
 module _ {m n : ℕ} {a b : List Level} (x : Keeps m a) (y : Keeps n b) where
   Keeps-same : m ≡ n → a ≡ b
   Keeps-same e = sym x.is ∙ ap kept_field e ∙ y.is

@@ -1,4 +1,4 @@
--- Where bytes leave the spellings of a part that is made of smaller ones.
+-- The place at which bytes leave the spellings of a part that is made of smaller ones.
 use Rattle.std.proofs.Common.{◌≡◌, ◌≢◌, ℕ, ◌+◌, ◌-◌, ◌<◌, ◌≤◌, List, [], ◌++◌, length, get_or, take, drop, refl, sym, subst, ◌∙◌, ap, arith, append_assoc, length-append}
 use Rattle.std.proofs.Math.Seq.{take-add, take-append-add}
 use Rattle.std.proofs.lemmas.List.{append-nil, take-append-le, drop-append-le, drop-take, take-take, get_or-drop, get_or_append_left, length-drop, length-take-le, drop-drop}
@@ -6,11 +6,11 @@ use Rattle.can_frame.specs.TextParts.{Leaves, LeavesPart}
 use Rattle.can_frame.specs.declared.text.TextFaultKind.{TextFaultKind}
 use Rattle.can_frame.specs.declared.text.TextFault.{TextFault}
 
--- where fewer bytes agree
+-- if fewer bytes agree
 pub agrees_less : (m n : ℕ) (xs ys : List ℕ) → m ≤ n → take n xs ≡ take n ys → take m xs ≡ take m ys
 agrees_less m n xs ys h e = sym (take-take m n xs h) ∙ ap (take m) e ∙ take-take m n ys h
 
--- what agrees behind the first k bytes
+-- what agrees after the first k bytes
 pub agrees_behind : (k n : ℕ) (xs ys : List ℕ) → take (k + n) xs ≡ take (k + n) ys → take n (drop k xs) ≡ take n (drop k ys)
 agrees_behind k n xs ys e = sym (drop-take k n xs) ∙ ap (drop k) e ∙ drop-take k n ys
 
@@ -55,7 +55,7 @@ module _ (Whole Part : List ℕ → Type 0) (bytes : List ℕ) (k : ℕ) (fits :
         λ more q. here.1 (omega (arith, length-drop k bytes)) (sym same ∙ q ∙ sym (get_or-drop k bytes n 0)),
       )
 
-  -- where the bytes behind the first k leave a part that stands there, all of them leave the whole
+  -- if the bytes after the first k leave a part that begins there, all of them leave the whole
   pub Leaves-behind : Leaves Whole bytes (k + n)
   Leaves-behind = record {
     within = omega (arith, part.within, length-drop k bytes);
@@ -63,7 +63,7 @@ module _ (Whole Part : List ℕ → Type 0) (bytes : List ℕ) (k : ℕ) (fits :
     each = each_behind;
   }
 
--- the same of a part of the text that begins k bytes behind another
+-- this for a part of the text that begins k bytes after another
 pub LeavesPart-behind : (kind : TextFaultKind) (Whole Part : List ℕ → Type 0) (text : List ℕ) (start k : ℕ)
     → start + k ≤ length text
     → ((v : List ℕ) → Part v → (z : List ℕ) × Whole (take k (drop start text) ++ (v ++ z)))
@@ -84,7 +84,7 @@ LeavesPart-behind kind Whole Part text start k fits fill split fault l =
           (Leaves-behind Whole Part (drop start text) k room fill split n there);
     }
 
--- where no spelling of a part begins with the first byte
+-- if no spelling of a part begins with the first byte
 pub LeavesPart-first : (kind : TextFaultKind) (Spells : List ℕ → Type 0) (text : List ℕ) (start : ℕ)
     → start ≤ length text → (w : List ℕ) → Spells w
     → ((v : List ℕ) → Spells v → (0 < length v) × (start < length text → get_or v 0 0 ≢ get_or text start 0))

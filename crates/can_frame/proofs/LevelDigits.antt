@@ -1,4 +1,4 @@
--- The digits of levels tell them.
+-- The digits of levels determine them.
 use Rattle.std.proofs.Common.{◌≡◌, List, [], ◌∷◌, map, refl, arith}
 use Rattle.can_frame.specs.declared.level.Level.{Level}
 use Rattle.can_frame.specs.declared.level.Level.TheVariants.{Dominant, Recessive}

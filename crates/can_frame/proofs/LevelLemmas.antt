@@ -18,7 +18,7 @@ bits_of-same (suc n) x y h =
     let rest = bits_of-same n x y (λ i l. h i (omega arith)) in
     ap (λ b. level_of b ∷ bits_of n x) top ∙ ap (λ t. level_of (bit_at y n) ∷ t) rest
 
--- what stands above the k lowest bits has no say in their levels
+-- the bits above the k lowest have no influence on their levels
 pub bits_of-low : (k high low : ℕ) → bits_of k (high * 2 ^ k + low) ≡ bits_of k low
 bits_of-low k high low = bits_of-same k (high * 2 ^ k + low) low (λ i within. bit_at_cat_low high k low i within)
 
@@ -72,7 +72,7 @@ unfolding bits_of
 level_back n a back =
     ap (λ t. level_of (t % 2) ∷ bits_of (length a) (number_from n a)) (number_from-high n a) ∙ ap (λ t. level_of (n % 2) ∷ t) back
 
--- the number tells the levels, once their count is known
+-- the number determines the levels, once their count is known
 pub bits_of-number_from : (n : ℕ) (a : List Level) → bits_of (length a) (number_from n a) ≡ a
 unfolding bits_of
 bits_of-number_from n [] = refl

@@ -1,4 +1,4 @@
--- What a test of a level, or of its number, tells.
+-- What follows from a test of a level, or of its number.
 use Rattle.std.proofs.Common.{◌≡◌, ◌≢◌, ℕ, zero, suc, true, false, refl}
 use Rattle.std.specs.Bool.{Decides}
 use Rattle.can_frame.specs.declared.level.Level.{Level}

@@ -6,13 +6,13 @@ pub mod LevelTests
 pub mod LevelDigits
 -- which of two lists is before the other
 pub mod BeforeLemmas
--- arbitration fields: how two are ranked, that none begins another, and what one tells
+-- arbitration fields: their order, that none is a prefix of another, and what one determines
 pub mod FieldLemmas
 -- the hexadecimal digits of a number, and of bytes
 pub mod HexDigits
 -- a DLC in decimal
 pub mod Decimals
--- the bytes of a number, moved up to stand first among eight
+-- the bytes of a number, shifted to the front of eight
 pub mod DataNumber
 -- how long a frame's text is
 pub mod TextLengths

@@ -63,7 +63,7 @@ module _ (f g : Parts) (hf : IsFrame f) (hg : IsFrame g) where
       let rest = same_end g.remote remote.0 refl remote.1 in
       λ i. record { id = id.0 i; remote = remote.0 i; dlc = rest.0 i; bytes = rest.1 i }
 
--- what an answer that accepts a whole text meets
+-- a result that accepts a whole text meets the contract
 pub accepted : (text : List ℕ) (end : ℕ) (f : Parts) → Ended text end f → length text ≤ end → (given : Parts) → given ≡ f
     → record {
       found : IsFrame given × (frame_text given ≡ text);

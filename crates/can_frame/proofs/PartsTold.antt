@@ -1,4 +1,4 @@
--- What the spelling of each part of a frame's text tells of the frame.
+-- What the spelling of each part of a frame's text determines of the frame.
 use Rattle.std.proofs.Common.{◌≡◌, ◌≢◌, ℕ, ◌+◌, ◌*◌, ◌/◌, ◌%◌, ◌^◌, ◌<◌, ◌≤◌, ◌==◌, Bool, true, false, cond, List, [], ◌∷◌, ◌++◌, length, get_or, take, Ok, refl, sym, ◌∙◌, ap, subst, arith, append_assoc, inl, inr}
 use Rattle.std.proofs.lemmas.List.{take_at}
 use Rattle.std.proofs.lemmas.Bool.{cases_lt}
@@ -95,7 +95,7 @@ decimal_told d e hd he same = elim (cases_lt d 10) [
   ]
 ]
 
--- of a data frame, with its blank and what follows
+-- for a data frame, with its space and what follows
 first_digit : (d : ℕ) (x : List ℕ) → d < 10 → get_or (dlc_spelling false d ++ x) 0 0 ≡ 48 + d
 first_digit d x h = ap (λ t. get_or (t ++ cond (byte_count false d == 0) [] blank ++ x) 0 0) (decimal_one d h)
 

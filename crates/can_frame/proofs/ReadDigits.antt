@@ -1,4 +1,4 @@
--- Reading hexadecimal digits: where they stand, and where a text leaves them.
+-- Reading hexadecimal digits: their places, and the place at which a text leaves them.
 use Rattle.std.proofs.Common.{◌≡◌, ℕ, ◌+◌, ◌-◌, ◌*◌, ◌/◌, ◌%◌, ◌^◌, ◌<◌, ◌≤◌, List, [], ◌∷◌, ◌++◌, length, get_or, take, drop, refl, sym, ◌∙◌, ap, subst, arith, append_assoc}
 use Rattle.std.proofs.Math.Nat.{pow-le-pow_right, mul-lt-mul_of_pos_right, one-le-pow}
 use Rattle.std.proofs.lemmas.Nat.{pow-add, div_below, mul-le}
@@ -45,7 +45,7 @@ digit_leaves kind text place limit fits some base none =
 
 -- ---- a number
 
--- a spelling behind another
+-- a spelling after another
 pub StandsAt-append : (v w text : List ℕ) (start middle end : ℕ) → StandsAt v text start middle
     → StandsAt w text middle end → StandsAt (v ++ w) text start end
 StandsAt-append v w text start middle end s t = record {
@@ -112,7 +112,7 @@ module _ (kind : TextFaultKind) (text : List ℕ) (start k j count limit next n 
         omega (arith, ap length m.2, length-hex_digits count m.0),
       )
 
-  -- where the text leaves the next digit of a number, it leaves the number
+  -- if the text leaves the next digit of a number, it leaves the number
   number_leaves : (fault : TextFault) → LeavesPart kind (IsHexNumber 1 next) text (start + k) fault
       → LeavesPart kind (IsHexNumber count limit) text start fault
   number_leaves fault = LeavesPart-behind kind (IsHexNumber count limit) (IsHexNumber 1 next) text start k s.within fill split fault

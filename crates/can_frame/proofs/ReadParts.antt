@@ -33,7 +33,7 @@ letter_leaves_first kind first second text start fits a b =
       ],
     ))
 
--- no blank behind a letter
+-- no space after a letter
 pub letter_leaves_blank : (kind : TextFaultKind) (first second : ℕ) (text : List ℕ) (start : ℕ) → start < length text
     → (is_second : Bool) → get_or text start 0 ≡ cond is_second second first
     → (fault : TextFault) → LeavesPart kind (λ w. blank ≡ w) text (start + 1) fault
@@ -185,7 +185,7 @@ module _ (text : List ℕ) (start count i place : ℕ) (read : List ℕ) (r : Re
         omega (arith, ap length bytes.3, length-encode_lower all, bytes.2),
       )
 
-  -- where the text leaves the next byte, it leaves the data
+  -- if the text leaves the next byte, it leaves the data
   pub data_leaves : (kind : TextFaultKind) (fault : TextFault) → LeavesPart kind (IsHexNumber 2 16) text place fault
       → LeavesPart kind (IsData count) text start fault
   data_leaves kind fault l =

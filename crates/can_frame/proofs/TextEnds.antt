@@ -1,4 +1,5 @@
--- The end of a frame's text: its data bytes, what stands behind it, and that it tells the whole frame.
+-- The end of a frame's text: its data bytes, the bytes after it, and that it determines the whole
+-- frame.
 use Rattle.std.proofs.Common.{◌≡◌, ℕ, ◌+◌, ◌-◌, ◌<◌, ◌≤◌, Bool, true, false, List, [], ◌++◌, length, get_or, take, drop, min, refl, sym, ◌∙◌, ap, subst, arith, length-append, inl, inr}
 use Rattle.std.proofs.Math.Seq.{take-add}
 use Rattle.std.proofs.lemmas.Bool.{cases_lt}
@@ -18,7 +19,7 @@ use Rattle.can_frame.proofs.TextStages.{after_direction, before_size, four_befor
 use Rattle.can_frame.proofs.PartsTold.{dlc_part_is, dlc_told, data_told}
 use Rattle.can_frame.proofs.TextLengths.{length-decimal_digits}
 
--- the bytes up to this place are the frame's text, and no frame's text goes on with the next byte
+-- the bytes before this place are the frame's text, and no frame's text continues with the next byte
 pub record Ended (text : List ℕ) (end : ℕ) (f : Parts) : Type 0 where
   pub within : end ≤ length text
   pub frame : IsFrame f
@@ -222,7 +223,7 @@ text_data_fault text place id true d ident few past start spelt fault l =
       ap length (sym w.1.3 ∙ encode_none w.1.0 w.1.2),
     ))
 
--- bytes behind a whole text trail it
+-- bytes after a whole text trail it
 pub text_trails : (text : List ℕ) (end : ℕ) (f : Parts) → Ended text end f → end < length text
     → Refuses text (record { kind = Trailing; place = end })
 text_trails text end f e more = trails text end f more e.frame e.whole (e.apart more)

@@ -1,5 +1,5 @@
--- Reading a frame's text from its front on: what the bytes up to a place tell of the frames whose text
--- begins with them, and which fault the bytes have where they leave every frame's text.
+-- Reading a frame's text from its front: what the bytes before a place determine of the frames whose text
+-- begins with them, and the fault of the bytes if they leave every frame's text.
 use Rattle.std.proofs.Common.{◌≡◌, ◌≢◌, ℕ, ◌+◌, ◌-◌, ◌<◌, ◌≤◌, List, [], ◌++◌, length, get_or, take, drop, Result, Ok, Err, IfOk, IfErr, refl, sym, ◌∙◌, ap, subst, arith, append_assoc, length-append}
 use Rattle.std.proofs.Math.Seq.{take-add, take-append-add}
 use Rattle.std.proofs.lemmas.List.{append-nil, take-append-le, take-append-drop, take_at, drop_at, get_or-drop, get_or-take, get_or_append_left, length-drop, length-take-le, take-take}
@@ -16,7 +16,7 @@ pub record Refuses (text : List ℕ) (fault : TextFault) : Type 0 where
   pub is_fault : IsTextFault text fault
   pub none : (f : Parts) → IsFrame f → frame_text f ≡ text → ⊥
 
--- Q is what holds of the frames whose text begins with the bytes up to a place, and `rest` is what
+-- Q is what is true of the frames whose text begins with the bytes before a place, and `rest` is what
 -- follows in such a frame's text
 pub record Past (text : List ℕ) (place : ℕ) (Q : Parts → Type 0) (rest : Parts → List ℕ) : Type 0 where
   pub within : place ≤ length text
@@ -29,8 +29,8 @@ front_same n xs front rest h e = ap (take n) e ∙ take-append-le n front rest h
 
 -- ---- the fault
 
--- Some frame's text begins with the bytes up to the place, and each that does has one more byte, which is
--- not theirs and lies in this part.
+-- Some frame's text begins with the bytes before the place, and each that does has a further byte, which
+-- is not theirs and lies in this part.
 module _ (text : List ℕ) (place : ℕ) (kind : TextFaultKind) (within : place ≤ length text) (part : kind ≢ Trailing)
     (some : Parts) (is_frame : IsFrame some) (begun : take place (frame_text some) ≡ take place text)
     (each : (f : Parts) → IsFrame f → take place (frame_text f) ≡ take place text
@@ -82,7 +82,7 @@ module _ (text : List ℕ) (place : ℕ) (kind : TextFaultKind) (within : place 
         here.1 (omega (arith, here.0, ap length e)) (ap (λ t. get_or t place 0) e);
   }
 
--- the bytes up to the place are a frame's text, and no frame's text goes on with the next byte
+-- the bytes before the place are a frame's text, and no frame's text continues with the next byte
 pub trails : (text : List ℕ) (place : ℕ) (f : Parts) → place < length text → IsFrame f → frame_text f ≡ take place text
     → ((g : Parts) → IsFrame g → take (place + 1) (frame_text g) ≡ take (place + 1) text → ⊥)
     → Refuses text (record { kind = Trailing; place = place })
@@ -117,7 +117,7 @@ module _ (text : List ℕ) (place : ℕ) (Q : Parts → Type 0) (first next : Pa
       ∙ drop_at (take place text) (first f ++ next f) place (length-take-le place text past.within) in
       (q, ap (take n) (sym tail) ∙ agrees_behind place n (frame_text f) text e)
 
-  -- behind a spelling of a part that tells what the frame has there
+  -- after a spelling of a part that determines the frame there
   pub Past-step : (v : List ℕ) (end : ℕ) → StandsAt v text place end → (Q' : Parts → Type 0)
       → ((f : Parts) → IsFrame f → Q' f → Q f × (first f ≡ v))
       → ((f : Parts) → IsFrame f → Q f → (x y : List ℕ) → first f ++ x ≡ v ++ y → Q' f) → Past text end Q' next
@@ -141,7 +141,7 @@ module _ (text : List ℕ) (place : ℕ) (Q : Parts → Type 0) (first next : Pa
       } in
       subst (λ p. Past text p Q' next) (sym there) here
 
-  -- where the text leaves a part, it has the fault of that part
+  -- if the text leaves a part, it has the fault of that part
   pub Past-stop : (kind : TextFaultKind) → kind ≢ Trailing → (Spells : List ℕ → Type 0)
       → ((f : Parts) → IsFrame f → Q f → Spells (first f))
       → ((w : List ℕ) → Spells w → (f : Parts) × IsFrame f × Q f × (first f ≡ w))
@@ -189,7 +189,7 @@ module _ (text : List ℕ) (place : ℕ) (Q : Parts → Type 0) (first next : Pa
       (subst (λ p. Refuses text (record { kind = kind; place = p })) there
       (stops text (place + n) kind last part f.0 f.1 same each))
 
--- what an answer that refuses the bytes meets
+-- a result that refuses the bytes meets the contract
 pub refused : (text : List ℕ) (answer : Result Parts TextFault) (given fault : TextFault) → answer ≡ Err given
     → given ≡ fault → Refuses text fault
     → record {

@@ -1,4 +1,4 @@
--- Reading a frame's text part by part: what is told behind each part, and the fault in each.
+-- Reading a frame's text part by part: what is known after each part, and the fault in each.
 use Rattle.std.proofs.Common.{◌≡◌, ℕ, ◌+◌, ◌<◌, nat_lt, Bool, true, false, cond, List, ◌++◌, length, take, replicate, refl, sym, ◌∙◌, ap, subst, arith, append_assoc, length-append}
 use Rattle.std.proofs.lemmas.List.{append_cancel_right, length-take-le, length-replicate}
 use Rattle.std.proofs.lemmas.Bool.Decides.{nat_tests}
@@ -53,7 +53,7 @@ three_before l i d rest = simp append_assoc
 pub four_before : (l i d c rest : List ℕ) → l ++ (i ++ (d ++ (c ++ rest))) ≡ (l ++ (i ++ (d ++ c))) ++ rest
 four_before l i d c rest = simp append_assoc
 
--- where a part begins is how long the parts before it are
+-- the place of a part is the length of the parts before it
 pub before_size : (text : List ℕ) (place : ℕ) (Q : Parts → Type 0) (rest : Parts → List ℕ) → Past text place Q rest
     → (f : Parts) → IsFrame f → Q f → (before : List ℕ) → frame_text f ≡ before ++ rest f → place ≡ length before
 before_size text place Q rest past f h q before e =
@@ -167,7 +167,7 @@ module _ (text : List ℕ) where
         ∙ ap (λ p. part_at f (p + n)) (sym size))
         fault
 
-  -- all that stands before the DLC
+  -- all parts before the DLC
   pub past_head : (b : Bool) (start : ℕ) → StandsAt (letter_spelling 83 69 b) text 0 start
       → (id : Ident) (middle : ℕ) → IsIdent id → id.extended ≡ b → StandsAt (identifier_spelling b id.raw) text start middle
       → (r : Bool) (end : ℕ) → StandsAt (letter_spelling 68 82 r) text middle end

@@ -108,7 +108,7 @@ data_written f is old octets n end filled n_is end_is =
 
 -- ---- parts
 
--- an identifier behind its letter, by its kind and its number
+-- an identifier after its letter, by its kind and its number
 of_kind : (f : Parts) (extended : Bool) (raw : ℕ) → f.id.extended ≡ extended → raw ≡ f.id.raw
     → (cond extended (codes "E") (codes "S") ++ codes " ") ++ (hex_digits (identifier_digits extended) raw ++ codes " ") ≡ letter_part f ++ identifier_part f
 of_kind f extended raw is_kind is_raw = λ i. (cond (sym is_kind i) (codes "E") (codes "S") ++ codes " ") ++ (hex_digits (identifier_digits (sym is_kind i)) (is_raw i) ++ codes " ")
@@ -133,7 +133,7 @@ extended_written f raw t is_raw is_extended digits =
 pairs_apart : (t a b c d e : List ℕ) → ((t ++ (a ++ b)) ++ (c ++ d)) ++ e ≡ t ++ (a ++ (b ++ (c ++ (d ++ e))))
 pairs_apart t a b c d e = simp append_assoc
 
--- part by part behind a text
+-- part by part after a text
 pub parts_written : (f : Parts) (t0 t1 t2 t3 : List ℕ) → t1 ≡ t0 ++ (letter_part f ++ identifier_part f) → t2 ≡ t1 ++ (direction_part f ++ dlc_part f)
     → t3 ≡ t2 ++ encode_lower f.bytes → t3 ≡ t0 ++ frame_text f
 unfolding frame_text

@@ -1,4 +1,4 @@
--- A field that a key keeps gives the key's bits back. (The model of `Key` cites it.)
+-- The field that a key keeps determines the key's bits. (The model of `Key` cites it.)
 use Rattle.std.specs.Prelude.{◌≡◌, ℕ, ◌-◌, ◌*◌, ◌/◌, ◌^◌, ◌<◌, ◌==◌, if◌then◌else◌, length}
 use Rattle.std.proofs.Common.{◌∙◌, ap, arith, inl, inr}
 use Rattle.can_frame.specs.Levels.{bits_of}
@@ -13,7 +13,7 @@ pub kept_field-long : (bits : ℕ) → ide_bit bits ≡ 1 → kept_field bits �
 unfolding kept_field
 kept_field-long bits e = ap (λ b. if b == 0 then bits_of 13 (bits / 2 ^ 19) else bits_of 32 bits) e
 
--- n levels of the number x keep x at the highest n of 32 bits
+-- n levels of the number x keep x in the highest n of 32 bits
 bits_to_keep-bits_of : (n x : ℕ) → x < 2 ^ n → bits_to_keep (bits_of n x) ≡ x * 2 ^ (32 - n)
 bits_to_keep-bits_of n x within =
     ap (λ m. m * 2 ^ (32 - length (bits_of n x))) (number_from-whole n x within) ∙ ap (λ m. x * 2 ^ (32 - m)) (length-bits_of n x)

@@ -1,4 +1,4 @@
--- The levels of a number give the number back.
+-- The levels of a number determine the number.
 use Rattle.std.specs.Prelude.{◌≡◌, ℕ, suc, zero, ◌+◌, ◌*◌, ◌/◌, ◌%◌, ◌^◌, ◌<◌, ◌⊎◌, List, ◌∷◌, length}
 use Rattle.std.specs.Int.{bit_at}
 use Rattle.std.proofs.Common.{refl, sym, ◌∙◌, ap, arith, inl, inr}
@@ -28,7 +28,7 @@ number_from-level n b rest (inl e) =
 number_from-level n b rest (inr e) =
     ap (λ t. number_from n (level_of t ∷ rest)) e ∙ ap (λ t. number_from t rest) (let k : 2 * n + 1 ≡ 2 * n + b = omega arith in k)
 
--- the k lowest levels of x, behind those of n
+-- the k lowest levels of x, after those of n
 pub number_from-bits_of : (k n x : ℕ) → number_from n (bits_of k x) ≡ n * 2 ^ k + x % 2 ^ k
 unfolding bits_of
 number_from-bits_of zero n x = omega arith
@@ -40,6 +40,6 @@ number_from-bits_of (suc k) n x =
     let sums : (2 * n + b) * 2 ^ k + x % 2 ^ k ≡ n * 2 ^ suc k + x % 2 ^ suc k = omega (arith, split, double) in
     number_from-level n b (bits_of k x) (bit_cases x k) ∙ number_from-bits_of k (2 * n + b) x ∙ sums
 
--- a number below 2 ^ k has k levels
+-- a number below 2 ^ k is determined by its k lowest levels
 pub number_from-whole : (k x : ℕ) → x < 2 ^ k → number_from 0 (bits_of k x) ≡ x
 number_from-whole k x h = number_from-bits_of k 0 x ∙ (let e : 0 * 2 ^ k + x % 2 ^ k ≡ x = omega (arith, mod-eq_of_lt h) in e)

@@ -1,4 +1,5 @@
--- Levels, and the levels of a number. (Bosch CAN 2.0 part B, sections 2 and 3.2.1)
+-- Levels (bit values: dominant and recessive), and the levels of a number. (Bosch CAN 2.0 part B,
+-- sections 2 and 3.2.1)
 use Rattle.std.specs.Prelude.{ℕ, zero, suc, Bool, true, false, nat_lt, ◌+◌, ◌*◌, ◌/◌, ◌%◌, ◌^◌, List, [], ◌∷◌, map}
 use Rattle.std.specs.List.{list_all}
 use Rattle.can_frame.specs.declared.level.Level.{Level}
@@ -16,7 +17,7 @@ abbrev pub opposite : Level → Level
 opposite Dominant = Recessive
 opposite Recessive = Dominant
 
--- whether two levels are one
+-- whether two levels are equal
 abbrev pub same : Level → Level → Bool
 same Dominant Dominant = true
 same Recessive Recessive = true
@@ -28,20 +29,20 @@ abbrev pub level_of : ℕ → Level
 level_of zero = Dominant
 level_of (suc n) = Recessive
 
--- the number of a level, which is its bit
+-- the number of a level: its bit value
 abbrev pub level_code : Level → ℕ
 level_code Dominant = 0
 level_code Recessive = 1
 
--- whether this is a level's number
+-- whether this is the number of a level: 0 or 1
 abbrev pub is_level_code : ℕ → Bool
 is_level_code code = nat_lt code 2
 
--- whether all of these are
+-- whether each of these is the number of a level
 abbrev pub are_level_codes : List ℕ → Bool
 are_level_codes codes = list_all is_level_code codes
 
--- the levels of numbers
+-- the levels with these numbers
 abbrev pub levels_of_codes : List ℕ → List Level
 levels_of_codes codes = map level_of codes
 
@@ -55,7 +56,7 @@ unfoldable pub bits_of : ℕ → ℕ → List Level
 bits_of zero x = []
 bits_of (suc n) x = level_of (x / 2 ^ n % 2) ∷ bits_of n x
 
--- the number whose bits are those of n and then these, the highest first
+-- the number whose bits are those of n followed by these, the highest first
 abbrev pub number_from : ℕ → List Level → ℕ
 number_from n [] = n
 number_from n (Dominant ∷ bits) = number_from (2 * n) bits

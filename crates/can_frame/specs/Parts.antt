@@ -1,4 +1,4 @@
--- What a contract sees of a frame: the parts that its getters tell. (Bosch CAN 2.0 part B, sections 3.2.1 and 3.2.2)
+-- A frame, as contracts see it: the values that its getters return. (Bosch CAN 2.0 part B, sections 3.2.1 and 3.2.2)
 use Rattle.std.specs.Prelude.{◌≡◌, ℕ, Bool, ◌<◌, ◌==◌, min, if◌then◌else◌, List, length, slice_index}
 use Rattle.std.specs.Bool.{beq}
 use Rattle.std.specs.Cmp.Lexicographic.{pointwise}
@@ -11,11 +11,11 @@ pub record Parts : Type 0 where
   pub dlc : ℕ
   pub bytes : List ℕ
 
--- how many data bytes a frame has: none in a remote frame, and never more than eight
+-- how many data bytes a frame has: none in a remote frame, otherwise the lesser of the DLC and 8
 abbrev pub byte_count : Bool → ℕ → ℕ
 byte_count remote dlc = if remote then 0 else min dlc 8
 
--- what holds of every frame
+-- what is true of every frame: identifier and DLC in range, and the data bytes that its kind and DLC require
 pub record IsFrame (f : Parts) : Type 0 where
   pub id : IsIdent f.id
   pub dlc : f.dlc < 16

@@ -8,19 +8,19 @@ use crate::id::Id;
 use std::marker::Model;
 use thiserror::Error;
 
-/// Why a frame was refused.
+/// Why no frame was made.
 #[derive(Clone, Copy, Debug, PartialEq, Eq, Error)]
 pub enum FrameFault {
     /// The DLC is above 15.
     #[error("the data length code is above 15")]
     DlcAbove15,
-    /// The number of data bytes isn't the lesser of the DLC and 8.
+    /// The number of data bytes is not the lesser of the DLC and 8.
     #[error("the number of data bytes is not that of the data length code")]
     WrongByteCount,
 }
 
-/// A data frame or a remote frame, with a standard or an extended identifier. (Bosch CAN 2.0
-/// part B, section 3.1) Two frames are equal exactly when all their getters agree.
+/// A data frame or a remote frame, with a standard or an extended identifier (Bosch CAN 2.0 part B, section 3.1). Two
+/// frames are equal exactly if all their getters agree.
 #[derive(Clone, Copy, Debug)]
 pub struct Frame {
     id: Id,
@@ -67,8 +67,8 @@ impl Eq for Frame {
 }
 
 impl Frame {
-    /// The data frame of these parts. A DLC of 9 to 15 is kept as it is and means eight bytes.
-    /// The DLC is tested before the number of bytes. (Bosch CAN 2.0 part B, section 3.2.1)
+    /// Returns the data frame with this identifier, DLC and data bytes. A DLC of 9 to 15 is kept as it is, and means
+    /// eight bytes. The DLC is tested before the number of bytes. (Bosch CAN 2.0 part B, section 3.2.1)
     pub fn data(id: Id, dlc: u8, bytes: &[u8]) -> Result<Frame, FrameFault>
         ensures dlc_above_15 { IsErrOf result FrameFault.DlcAbove15 ↔ (15 < dlc) }
         ensures wrong_byte_count { IsErrOf result FrameFault.WrongByteCount ↔ ((dlc ≤ 15) × (length bytes.now ≢ min dlc 8)) }
@@ -92,14 +92,14 @@ impl Frame {
         })
     }
 
-    /// The data frame whose data bytes are the last of a number's eight, the highest first: as [`data`](Frame::data) of
-    /// those bytes. (Bosch CAN 2.0 part B, section 3.2.1)
+    /// Returns the data frame whose data bytes are the lowest bytes of a number, the highest of them first. It is the
+    /// frame that [`data`](Frame::data) makes of these bytes. (Bosch CAN 2.0 part B, section 3.2.1)
     pub fn data_of_number(id: Id, dlc: u8, number: u64) -> Frame
         requires range { dlc < 16 }
         requires small { number < 2 ^ (8 * min dlc 8) }
         ensures { result ≡ record { id = id; remote = false; dlc = dlc; bytes = drop (8 - min dlc 8) (to_be_bytes w64 number) } }
     {
-        // in two halves, since the whole may be by 64 places
+        // two shifts, since the whole shift may be by 64 bits
         let half = 4 * (8 - dlc.min(8));
         Frame {
             id,
@@ -109,7 +109,7 @@ impl Frame {
         }
     }
 
-    /// The remote frame of these parts. It has no data bytes, whatever its DLC.
+    /// Returns the remote frame with this identifier and DLC. It has no data bytes, whatever its DLC.
     pub fn remote(id: Id, dlc: u8) -> Result<Frame, FrameFault>
         ensures dlc_above_15 { IsErrOf result FrameFault.DlcAbove15 ↔ (15 < dlc) }
         ensures made { IsOk result ↔ (dlc ≤ 15) }
@@ -133,21 +133,21 @@ impl Frame {
         self.id
     }
 
-    /// Whether its identifier has 29 bits.
+    /// Whether the identifier has 29 bits.
     pub fn is_extended(&self) -> bool
         ensures { result ≡ self.now.id.extended }
     {
         self.id.is_extended()
     }
 
-    /// Whether it is a remote frame.
+    /// Whether this is a remote frame.
     pub fn is_remote(&self) -> bool
         ensures { result ≡ self.now.remote }
     {
         self.remote
     }
 
-    /// The DLC as it was given, 0 to 15.
+    /// The DLC as given, 0 to 15.
     pub fn dlc(&self) -> u8
         ensures value { result ≡ self.now.dlc }
         ensures range { result < 16 }
@@ -155,7 +155,7 @@ impl Frame {
         self.dlc
     }
 
-    /// The data bytes: none of a remote frame, else as many as the lesser of the DLC and 8.
+    /// The data bytes. A remote frame has none; a data frame has the lesser of the DLC and 8.
     pub fn bytes(&self) -> &[u8]
         ensures value { result.now ≡ self.now.bytes }
         ensures whole { IsFrame self.now }
@@ -165,12 +165,12 @@ impl Frame {
         } else {
             usize::from(self.dlc).min(8)
         };
-        // Who reads the identifier's number knows its range.
+        // gives callers the range of the identifier
         let _ = self.id.raw();
         front(&self.store, count)
     }
 
-    /// The data bytes, and zeros behind them up to eight.
+    /// The data bytes, followed by zeros to eight bytes.
     pub fn octets(&self) -> [u8; 8]
         ensures { result ≡ self.now.bytes ++ replicate (8 - length self.now.bytes) 0 }
     {

@@ -9,8 +9,8 @@ const STANDARD_COUNT: u16 = 0x800;
 /// How many extended identifiers there are.
 const EXTENDED_COUNT: u32 = 0x2000_0000;
 
-/// An identifier of 11 bits (standard) or 29 bits (extended). (Bosch CAN 2.0 part B, section
-/// 3.2.1) All 2^11 and 2^29 numbers are identifiers.
+/// An identifier of 11 bits (standard) or 29 bits (extended) (Bosch CAN 2.0 part B, section 3.2.1).
+/// All 2^11 and 2^29 numbers are identifiers.
 #[derive(Clone, Copy, Debug, PartialEq, Eq)]
 pub struct Id {
     raw: u32,
@@ -30,7 +30,7 @@ impl Model for Id {
 }
 
 impl Id {
-    /// The standard identifier of this number. `None` from 2^11 on.
+    /// Returns the standard identifier with this number, or `None` from 2^11 on.
     pub fn standard(raw: u16) -> Option<Id>
         ensures none { IsNone result ↔ (2 ^ 11 ≤ raw) }
         ensures some { IfSome result (λ id. id ≡ record { raw = raw; extended = false }) }
@@ -45,7 +45,7 @@ impl Id {
         }
     }
 
-    /// The extended identifier of this number. `None` from 2^29 on.
+    /// Returns the extended identifier with this number, or `None` from 2^29 on.
     pub fn extended(raw: u32) -> Option<Id>
         ensures none { IsNone result ↔ (2 ^ 29 ≤ raw) }
         ensures some { IfSome result (λ id. id ≡ record { raw = raw; extended = true }) }

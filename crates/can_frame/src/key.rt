@@ -8,12 +8,13 @@ use crate::frame::Frame;
 use std::cmp::Ordering;
 use std::marker::Model;
 
-/// The arbitration field of a frame, by which frames that start together are sorted out: the
-/// frame of the lesser key goes on. At the first bit in which two keys differ, the lesser one's is
-/// dominant. (Bosch CAN 2.0 part B, sections 2 and 3.2.1)
+/// The arbitration field of a frame. Of frames that start together, the one with the least key wins
+/// arbitration: at the first bit in which two keys differ, the lesser one has a dominant bit.
+/// (Bosch CAN 2.0 part B, sections 2 and 3.2.1)
 #[derive(Clone, Copy, Debug)]
 pub struct Key {
-    // The field's first bit is the highest. The 19 that a standard field lacks are zeros.
+    // The field's first bit is the highest. The 19 low bits, which a standard field lacks, are
+    // zero.
     bits: u32,
 }
 
@@ -35,7 +36,7 @@ impl Model for Key {
     ghost inverse_ok = { λ a kept. ap (λ bits. record { bits = bits }) (kept_again a.bits kept) };
 }
 
-// The two recessive bits in the middle of an extended field.
+// The two recessive bits after the base identifier of an extended frame.
 const SRR_AND_IDE: u32 = 0b11 << 19;
 
 impl Key {
@@ -63,8 +64,8 @@ impl Key {
 }
 
 impl Frame {
-    /// The arbitration field: identifier, RTR and IDE of a standard frame, the eleven highest
-    /// bits of the identifier, SRR, IDE, its other bits and RTR of an extended one.
+    /// The arbitration field: of a standard frame the identifier, RTR and IDE bit; of an extended
+    /// frame the eleven highest bits of the identifier, SRR, IDE, its other bits and RTR.
     #[tactic(auto, unfolding(crate::specs::Arbitration::arbitration_field))]
     pub fn key(&self) -> Key
         ensures { result ≡ arbitration_field self.now }

@@ -1,4 +1,4 @@
-//! Laws of the definitions, each a function that does nothing and ensures it.
+//! Laws of the definitions. Each is a function with an empty body, whose contract is the law.
 ghost use Rattle.std.specs.Prelude.{◌≡◌, ◌≢◌, ◌⊎◌, ◌↔◌, List, ◌++◌, IsTrue};
 ghost use Rattle.std.specs.Ordering.{partial_lt};
 ghost use Rattle.can_frame.specs.declared.level.Level.{Level};
@@ -10,15 +10,15 @@ use crate::key::Key;
 use crate::level::Level;
 use std::cmp::Ordering;
 
-/// Dominant is the lesser of the two levels.
+/// A dominant level is less than a recessive one.
 pub fn dominant_is_less()
     ensures order { (a b : Level) → ⟦<Level as Ord>⟧.cmp a b ≡ level_cmp a b }
     ensures less { (a b : Level) → IsTrue (partial_lt ⟦<Level as PartialOrd>⟧.partial_cmp a b)
         ↔ ((a ≡ Dominant) × (b ≡ Recessive)) }
 {}
 
-/// Which of two lists of levels is before the other is an order, and what stands behind the first
-/// place where they differ has no say in it.
+/// The order of arbitration on lists of levels is a strict order, decided at the first level that
+/// differs. What follows that level has no influence.
 pub fn before_is_an_order()
     ensures differs { (a b : List Level) → Before a b → a ≢ b }
     ensures one_way { (a b : List Level) → Before a b → Before b a → ⊥ }
@@ -26,8 +26,8 @@ pub fn before_is_an_order()
     ensures fronts_decide { (a b x y : List Level) → Before a b → Before (a ++ x) (b ++ y) }
 {}
 
-/// Of two frames with different arbitration fields one is before the other, and it is the one whose
-/// key is less, by `cmp` and by `<`.
+/// Of two frames with different arbitration fields, exactly the one with the lesser key has the
+/// higher priority. This holds for `cmp` and for `<`.
 pub fn lesser_key_goes_first()
     ensures total { (f g : Parts) → Before (arbitration_field f) (arbitration_field g)
         ⊎ ((arbitration_field f ≡ arbitration_field g)
@@ -40,14 +40,14 @@ pub fn lesser_key_goes_first()
         ↔ Before (arbitration_field f) (arbitration_field g) }
 {}
 
-/// No arbitration field begins another.
+/// No arbitration field is a proper prefix of another.
 pub fn no_field_begins_another()
     ensures { (f g : Parts) (x y : List Level) → arbitration_field f ++ x ≡ arbitration_field g ++ y
         → arbitration_field f ≡ arbitration_field g }
 {}
 
-/// Two frames have one arbitration field exactly where they have one identifier and are both data
-/// frames or both remote frames.
+/// Two frames have the same arbitration field exactly if they have the same identifier and kind
+/// (data or remote).
 pub fn field_tells_identifier_and_kind()
     ensures { (f g : Parts) → IsFrame f → IsFrame g
         → (arbitration_field f ≡ arbitration_field g) ↔ ((f.id ≡ g.id) × (f.remote ≡ g.remote)) }

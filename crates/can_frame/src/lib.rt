@@ -1,15 +1,15 @@
-//! Values of a classical CAN bus.
+//! Values of a classical CAN bus: levels, identifiers, frames and their texts.
 //!
 //! | File | What it has | Defined in |
 //! |---|---|---|
-//! | `level.rt` | [`Level`], what the bus carries in one bit time, its number and its digit, and [`IDLE_ROW`], how many recessive ones end a frame | `specs/Levels.antt`, `specs/IdleRow.antt` |
+//! | `level.rt` | [`Level`], a bit value, with its number and digit, and [`IDLE_ROW`], the number of recessive levels that end a frame | `specs/Levels.antt`, `specs/IdleRow.antt` |
 //! | `id.rt` | [`Id`], an identifier of 11 or 29 bits | `specs/Ident.antt` |
-//! | `frame.rt` | [`Frame`], a data or remote frame, which holds just what it was made of | `specs/Parts.antt` |
-//! | `key.rt` | [`Key`], a frame's arbitration field, whose order is that of arbitration | `specs/Arbitration.antt`, `specs/KeyBits.antt` |
-//! | `text.rt`, `text/` | the text of a frame, written and read, and what is wrong with other text | `specs/Text.antt`, `specs/TextParts.antt` |
+//! | `frame.rt` | [`Frame`], a data or remote frame, which keeps exactly the parts it was made from | `specs/Parts.antt` |
+//! | `key.rt` | [`Key`], a frame's arbitration field, ordered by priority | `specs/Arbitration.antt`, `specs/KeyBits.antt` |
+//! | `text.rt`, `text/` | frame text: writing, reading, and the fault of other text | `specs/Text.antt`, `specs/TextParts.antt` |
 //! | `laws.rt` | laws of levels, keys and fields, each a function whose contract is the law | `specs/Arbitration.antt` |
 //!
-//! Crates above find lemmas in `proofs/`, which `proofs/Lib.antt` lists with what each file has.
+//! `proofs/Lib.antt` lists the lemmas that other crates may use, with the contents of each file.
 #![tactic(auto)]
 
 mod frame;

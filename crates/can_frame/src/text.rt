@@ -1,5 +1,4 @@
-//! The text of a frame: one line, and one spelling a frame. `read` reads its parts, and `write`
-//! writes them.
+//! Frame text: each frame has one line of text. `read` reads its parts, and `write` writes them.
 ghost use Rattle.std.specs.Prelude.{◌≡◌, ◌+◌, ◌≤◌, ◌++◌, length, IfOk, IfErr};
 ghost use Rattle.std.specs.Str.{IsAscii};
 ghost use Rattle.can_frame.specs.Parts.{Parts, IsFrame};
@@ -14,44 +13,50 @@ use arrayvec::{ArrayString, ArrayVec};
 use std::str;
 use thiserror::Error;
 
-/// The part of a frame text in which a fault lies.
+/// The part of a frame text that has the fault.
 #[derive(Clone, Copy, Debug, PartialEq, Eq, Error)]
 pub enum TextFaultKind {
-    /// The kind letter, `S` or `E`, and its blank.
+    /// The kind letter, `S` or `E`, and the space after it.
     #[error("X1")]
     KindLetter,
-    /// The identifier and its blank.
+    /// The identifier and the space after it.
     #[error("X2")]
     Identifier,
-    /// The letter `D` or `R` and its blank.
+    /// The letter `D` or `R` and the space after it.
     #[error("X3")]
     DataOrRemote,
-    /// The data length code, and its blank where data follow.
+    /// The DLC, and the space after it if data bytes follow.
     #[error("X4")]
     Dlc,
     /// The data bytes.
     #[error("X5")]
     Data,
-    /// Bytes stand behind a whole frame text.
+    /// Bytes follow a whole frame text.
     #[error("X6")]
     Trailing,
 }
 
-/// Why bytes are no frame text. It prints as `X4 at 9`.
+/// Why bytes are not a frame text. It prints as `X4 at 9`.
 #[derive(Clone, Copy, Debug, PartialEq, Eq, Error)]
 #[error("{kind} at {place}")]
 pub struct TextFault {
-    /// The part in which the place lies.
+    /// The part that has the fault.
     pub kind: TextFaultKind,
-    /// The length of the longest front of the bytes that begins some frame text.
+    /// The length of the longest prefix of the bytes that also begins some frame text.
     pub place: usize,
 }
 
 impl Frame {
-    /// The frame's text: `S` or `E` for a standard or an extended identifier, a blank, the identifier
-    /// in three or eight hexadecimal digits, a blank, `D` or `R` for a data frame or a remote frame, a
-    /// blank, and the DLC in decimal. Where there are data bytes, a blank follows, and two hexadecimal
-    /// digits a byte. Letters among the digits are in lower case. The text has 9 to 32 bytes.
+    /// Returns the frame's text, 9 to 32 bytes of ASCII. It consists of these parts, with one space
+    /// between two of them:
+    ///
+    /// - `S` for a standard or `E` for an extended identifier;
+    /// - the identifier in three or eight hexadecimal digits;
+    /// - `D` for a data frame or `R` for a remote frame;
+    /// - the DLC in decimal, without leading zero;
+    /// - if there are data bytes, two hexadecimal digits for each.
+    ///
+    /// Hexadecimal digits are in lower case.
     pub fn to_text(&self) -> ArrayString<32>
         ensures text { result.bytes ≡ frame_text self.now }
         ensures bound { length result.bytes ≤ 32 }
@@ -62,8 +67,7 @@ impl Frame {
         ArrayString::from(text).unwrap()
     }
 
-    /// The bytes of the frame's text, as [`to_text`](Frame::to_text) has it: for callers that write
-    /// bytes.
+    /// Returns the frame's text, as [`to_text`](Frame::to_text) writes it, as bytes.
     pub fn text_bytes(&self) -> ArrayVec<u8, 32>
         ensures text { result.items ≡ frame_text self.now }
         ensures ascii { IsAscii result.items }
@@ -74,8 +78,7 @@ impl Frame {
         text
     }
 
-    /// Appends the bytes of the frame's text to others with room for 32 more: for callers that put
-    /// a line together.
+    /// Appends the frame's text to bytes. The vector must have space for 32 more.
     #[inline(always)]
     pub fn push_text<const ROOM: usize>(&self, text: &mut ArrayVec<u8, ROOM>)
         requires { length text.old.items + 32 ≤ ROOM }
@@ -88,9 +91,10 @@ impl Frame {
         write::data(text, self);
     }
 
-    /// The frame whose text this is, as [`to_text`](Frame::to_text) writes it: no other spelling is
-    /// taken. The fault of other bytes is at the length of their longest front that begins some
-    /// frame's text. If that front is a whole text, the bytes behind it are the fault.
+    /// Returns the frame with this text, or the fault of the text. Only the spelling that
+    /// [`to_text`](Frame::to_text) writes is accepted. The fault's place is the length of the longest
+    /// prefix that begins some frame text. If this prefix is a whole frame text, the fault is the
+    /// bytes after it.
     pub fn from_text(text: &[u8]) -> Result<Frame, TextFault>
         ensures found { IfOk result (λ f. IsFrame f × (frame_text f ≡ text.now)) }
         ensures only { (f : Parts) → IsFrame f → frame_text f ≡ text.now → result ≡ Ok f }
@@ -116,7 +120,7 @@ impl Frame {
     }
 }
 
-/// Two frames with one text are equal.
+/// Two frames with the same text are equal.
 pub fn one_text_a_frame()
     ensures { (f g : Parts) → IsFrame f → IsFrame g → frame_text f ≡ frame_text g → f ≡ g }
 {}

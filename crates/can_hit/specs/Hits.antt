@@ -1,16 +1,16 @@
--- Which disturbances a bus takes: their order, and the ports that they name.
+-- Which injected bit errors (hits) a bus accepts: their order, and the nodes that they name.
 -- (docs/BUS.md, "Disturbances" and "Refusals")
 use Rattle.std.specs.Prelude.{ℕ, nat_lt, ◌==◌, Bool, true, false, ◌&&◌, ◌||◌, List}
 use Rattle.can_hit.specs.declared.hit.Hit.{Hit}
 use Rattle.can_hit.specs.declared.hit.Hit.TheVariants.{At, In, View}
 use Rattle.can_hit.specs.Sound.{FollowsLast, AreSound}
 
--- one pair of numbers is above another: the first decides, then the second
+-- whether the pair (a, b) is greater than (c, d): the first number decides, then the second
 abbrev pub is_pair_above : ℕ → ℕ → ℕ → ℕ → Bool
 is_pair_above a b c d = nat_lt c a || ((c == a) && nat_lt d b)
 
--- the first hit is above the second: all `At` by rising time, then all `In` by rising attempt and offset,
--- then all `View` by rising time and port
+-- whether the first hit is after the second in the order of hits: all `At` by rising time, then all `In`
+-- by rising attempt and offset, then all `View` by rising time and node
 abbrev pub is_above : Hit → Hit → Bool
 is_above (At time) (At before) = nat_lt before time
 is_above (At time) (In attempt offset) = false
@@ -22,16 +22,16 @@ is_above (View time node) (At before) = true
 is_above (View time node) (In attempt offset) = true
 is_above (View time node) (View before other) = is_pair_above time node before other
 
--- of so many ports the hit names one, if it names any
+-- whether the node that the hit names, if any, is one of this number of nodes
 abbrev pub hit_names_port : ℕ → Hit → Bool
 hit_names_port ports (At time) = true
 hit_names_port ports (In attempt offset) = true
 hit_names_port ports (View time node) = nat_lt node ports
 
--- the hit at this place is above the one before it
+-- the hit at this place is after the one before it in the order of hits
 abbrev pub IsAboveLast : List Hit → ℕ → Hit → Type 0
 IsAboveLast hits place hit = FollowsLast is_above hits place hit
 
--- the hits stand in strict order, and each names a port that there is, if it names any
+-- the bus accepts these hits: they are in strictly rising order, and each node that one names exists
 abbrev pub AreTaken : ℕ → List Hit → Type 0
 AreTaken ports hits = AreSound is_above hit_names_port ports hits

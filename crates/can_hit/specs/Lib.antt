@@ -1,3 +1,3 @@
--- To believe: what public calls promise is said in these words
+-- To believe: the definitions in which public calls state what they promise
 pub mod Sound
 pub mod Hits

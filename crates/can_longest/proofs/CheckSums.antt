@@ -1,4 +1,4 @@
--- A check sequence is the sum of what its levels add.
+-- A CRC sequence is the sum of what its levels add.
 use Rattle.std.proofs.Common.{◌≡◌, ℕ, suc, List, ◌++◌, length, sym, ◌∙◌, ap, arith, length-append}
 use Rattle.std.proofs.lemmas.List.{length-replicate}
 use Rattle.can_frame.specs.declared.level.Level.{Level}
@@ -18,7 +18,7 @@ crc_of-xor a b same =
     ∙ reduced-xor (length a) (a ++ none 15) (b ++ none 15)
     ∙ ap (λ n. xor (reduced (length a) (a ++ none 15)) (reduced n (b ++ none 15))) same
 
--- that of two lists, one behind the other
+-- that of two lists, one after the other
 pub crc_of-parts : (a d : List Level) → crc_of (a ++ d) ≡ xor (crc_of (a ++ none (length d))) (crc_of d)
 crc_of-parts a d =
     let n = length d in
@@ -32,6 +32,6 @@ crc_of-parts a d =
 pub next_check-dominant : (k : ℕ) (check : List Level) → length check ≡ 15 → next_check k check Dominant ≡ check
 next_check-dominant k check size = ap (xor check) (crc_of-none (suc k)) ∙ xor_zeros check 15 (omega arith)
 
--- the sum of a check sequence and another is as long
+-- the sum of a CRC sequence and another has the same length
 pub length-added : (check b : List Level) → length check ≡ 15 → length (xor check (crc_of b)) ≡ 15
 length-added check b size = length-xor check (crc_of b) (omega (arith, length-crc_of b)) ∙ size

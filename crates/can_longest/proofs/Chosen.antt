@@ -15,7 +15,7 @@ use Rattle.can_longest.specs.ToCome.{to_come, most}
 use Rattle.can_longest.proofs.Greatest.{most-none_longer, most-one_as_long, to_come-behind}
 use Rattle.can_longest.proofs.CheckSums.{crc_of-parts, length-added}
 
--- data of this byte and of so many bytes more that make it as long as it is at most
+-- data of this byte and n more bytes that reach the maximum
 abbrev pub Leads : ℕ → Level → ℕ → List Level → ℕ → Type 0
 Leads left last run check x = (d : List Level) × (length d ≡ 8 * left) × (to_come last run check (bits_of 8 x ++ d) ≡ most (8 * (left + 1)) last run check)
 
@@ -33,7 +33,7 @@ module _ (left : ℕ) (last : Level) (run : ℕ) (check : List Level) (fifteen :
       let size : length (drop 8 d) ≡ 8 * left = omega (arith, length-drop 8 d, r.1) in
       (x, small, (drop 8 d, size, ap (to_come last run check) again ∙ r.2))
 
-  -- what is heard of a byte tells whether it does
+  -- the levels of a byte show whether it does
   module _ (x before levels : ℕ) (next : Level) (next_length : ℕ) (after : List Level)
       (behind : (rest : List Level) → before + length (stuffed_from last run (bits_of 8 x ++ rest)) ≡ levels + length (stuffed_from next next_length rest))
       (after_is : after ≡ xor check (crc_of (bits_of 8 x ++ none (8 * left)))) where
@@ -60,7 +60,7 @@ module _ (left : ℕ) (last : Level) (run : ℕ) (check : List Level) (fifteen :
         let same : levels + most (8 * left) next next_length after ≡ before + most (8 * (left + 1)) last run check = omega (arith, at_most, less, heard d leads.1, leads.2) in
         other same
 
--- One byte more behind those that were chosen.
+-- One more byte after those that were chosen.
 pub small_push : (bytes : List ℕ) (x : ℕ) → ((k : ℕ) → get_or bytes k 0 < 256) → x < 256 → (k : ℕ) → get_or (bytes ++ x ∷ []) k 0 < 256
 small_push [] x small here zero = here
 small_push [] x small here (suc k) = omega arith

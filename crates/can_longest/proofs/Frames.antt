@@ -1,4 +1,4 @@
--- The longest wire of frames that differ in nothing but their data, by what comes at most behind their header.
+-- The maximum length of frames that differ only in their data, by the maximum that follows their header.
 use Rattle.std.proofs.Common.{◌≡◌, ℕ, zero, ◌+◌, ◌*◌, ◌<◌, ◌≤◌, Bool, true, false, List, [], ◌++◌, length, drop, cond, refl, sym, ◌∙◌, ap, arith, length-append, append_assoc}
 use Rattle.std.specs.List.{flat_map}
 use Rattle.std.proofs.lemmas.List.{append-nil, drop_all}
@@ -26,13 +26,13 @@ header_of-same id remote dlc f is =
     header_of-bare f.id f.remote f.dlc f.bytes ∙ ap (λ i. header_of (with_bytes i f.remote f.dlc [])) is.same_id
     ∙ ap (λ r. header_of (with_bytes id r f.dlc [])) is.same_kind ∙ ap (λ n. header_of (with_bytes id remote n [])) is.same_dlc
 
--- A wire is a stuffed head with its check sequence, and ten levels of tail.
+-- A frame on the bus is a stuffed head with its CRC sequence, and ten levels of tail.
 length-wire : (f : Parts) → length (wire f) ≡ length (stuffed_from Dominant 0 (head f ++ crc_of (head f))) + 10
 unfolding stuffed_part unstuffed stuffed
 length-wire f = length-append (stuffed_part f) (tail Dominant Recessive)
 
--- Behind this header so many levels were heard, the last of them ends such a run, and the check sequence is this one if
--- only dominant data come.
+-- This header has this number of levels, the last of them ends such a run, and the CRC sequence is this one if only
+-- dominant data follow.
 module _ (header : List Level) (levels : ℕ) (last : Level) (run : ℕ) (check : List Level)
     (behind : (rest : List Level) → length (stuffed_from Dominant 0 (header ++ rest)) ≡ levels + length (stuffed_from last run rest)) where
   -- then these are the levels of the stuffed part

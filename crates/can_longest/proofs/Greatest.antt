@@ -12,7 +12,7 @@ use Rattle.can_longest.specs.ToCome.{wire_levels, next_last, next_run, next_chec
 use Rattle.can_longest.proofs.Steps.{length-stuffed_from, length-stuffed_from-le}
 use Rattle.can_longest.proofs.CheckSums.{crc_of-parts, length-added}
 
--- nothing but the check sequence
+-- only the CRC sequence
 pub to_come-none : (last : Level) (run : ℕ) (check : List Level) → length check ≡ 15 → to_come last run check [] ≡ length (stuffed_from last run check)
 unfolding to_come
 to_come-none last run check size = ap (λ t. length (stuffed_from last run t)) (ap (xor check) (crc_of-none 0) ∙ xor_zeros check 15 (omega arith))
@@ -56,7 +56,7 @@ most-none_longer (suc k) last run check (x ∷ d) size h =
     let level = to_come-level last run check x d ∙ ap (λ n. wire_levels last run x + to_come (next_last last run x) (next_run last run x) (next_check n check x) d) count in
     omega (arith, level, rest, most_with-le k last run check x)
 
--- a list of k levels that makes it as much
+-- a list of k levels that reaches it
 abbrev pub Reached : ℕ → Level → ℕ → List Level → ℕ → Type 0
 Reached k last run check n = (d : List Level) × (length d ≡ k) × (to_come last run check d ≡ n)
 
@@ -81,7 +81,7 @@ module _ (k : ℕ) (last : Level) (run : ℕ) (check : List Level)
     | inr e ↦ with_level Recessive (most-suc k last run check ∙ e)
   ]
 
--- and one makes it as much
+-- and one reaches it
 pub most-one_as_long : (k : ℕ) (last : Level) (run : ℕ) (check : List Level) → length check ≡ 15 → Reached k last run check (most k last run check)
 most-one_as_long zero last run check size = ([], refl, sym (most-zero last run check size))
 most-one_as_long (suc k) last run check size =

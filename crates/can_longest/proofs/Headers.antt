@@ -56,7 +56,7 @@ header_of-few id remote dlc = omega (arith, header_of-sized id remote dlc, by id
 pub header_of-some : (id : Ident) (remote : Bool) (dlc : ℕ) → 1 ≤ length (header_of (with_bytes id remote dlc []))
 header_of-some id remote dlc = omega (arith, header_of-sized id remote dlc)
 
--- what is heard of the frame whose n bytes of data are dominant, up to their end
+-- the levels of the frame whose n bytes of data are dominant, to their end
 module _ (id : Ident) (remote : Bool) (dlc n : ℕ) (f : Parts) (f_is : f ≡ with_bytes id remote dlc (replicate n 0)) (u : List Level) (u_is : u ≡ heard_head (sent f)) where
   abbrev header : List Level
   header = header_of (with_bytes id remote dlc [])

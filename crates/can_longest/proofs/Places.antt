@@ -18,7 +18,7 @@ use Rattle.can_longest.proofs.Greatest.{most-le, most-suc}
 use Rattle.can_longest.proofs.CheckSums.{length-added, next_check-dominant}
 use Rattle.can_longest.proofs.Turned.{length-turned, most-opposite, next_check-opposite, turned-suc}
 
--- what holds of each element at its place holds with one more behind them
+-- what is true of each element at its place stays true with one more after them
 pub pushed : {X : Type 0} (P : ℕ → X → Type 0) (old : List X) (x : X) → ((k : ℕ) (y : X) → slice_get old k ≡ Some y → P k y) → P (length old) x
     → (k : ℕ) (y : X) → slice_get (old ++ x ∷ []) k ≡ Some y → P k y
 pushed P [] x each here zero y at = subst (P 0) (get_or_from_slice_get (x ∷ []) 0 y x at) here
@@ -43,7 +43,7 @@ entry_at k row is p q same less a at =
     let there : a ≡ get_or row.ahead.items q a = at ∙ ap (λ n. get_or row.ahead.items n a) same in
     is.each q a (slice_get_read row.ahead.items (2 ^ 15) q a (sym is.full) less there)
 
--- that of a sum of check sequences
+-- that of a sum of CRC sequences
 pub entry_of_sum : (k : ℕ) (row : Row) → IsRow k row → (p check t : ℕ) → p ≡ bit_xor check t → check < 2 ^ 15 → t < 2 ^ 15 → (a : Ahead) → a ≡ get_or row.ahead.items p a
     → IsAhead k (xor (bits_of 15 check) (bits_of 15 t)) a
 entry_of_sum k row is p check t same small t_small a at =
@@ -65,7 +65,7 @@ bits_of-one : bits_of 1 1 ≡ Recessive ∷ []
 unfolding bits_of
 bits_of-one = refl
 
--- the sum of two opposite check sequences, with one level more
+-- the sum of two opposite CRC sequences, with one more level
 pub turned_added : (k t a : ℕ) → bits_of 15 t ≡ turned k → bits_of 15 a ≡ crc_of (bits_of 1 1 ++ none k) → bits_of 15 (bit_xor t a) ≡ turned (suc k)
 turned_added k t a t_is a_is =
     bits_of-xor 15 t a ∙ ap (λ u. xor u (bits_of 15 a)) t_is ∙ ap (xor (turned k)) (a_is ∙ ap (λ u. crc_of (u ++ none k)) bits_of-one) ∙ sym (turned-suc k)
@@ -74,7 +74,7 @@ pub turned_none : bits_of 15 0x7fff ≡ turned 0
 unfolding turned bits_of
 turned_none = refl
 
--- what comes at most behind a check sequence alone
+-- the maximum that follows a CRC sequence alone
 pub IsAhead-none : (check : List Level) (a : Ahead) → a.one ≡ length (stuffed_from Dominant 1 check) → a.two ≡ length (stuffed_from Dominant 2 check)
     → a.three ≡ length (stuffed_from Dominant 3 check) → a.four ≡ length (stuffed_from Dominant 4 check) → IsAhead 0 check a
 unfolding most

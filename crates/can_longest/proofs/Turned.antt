@@ -1,4 +1,4 @@
--- Behind opposite levels comes as much, where the check sequence is opposite too.
+-- The same number follows opposite levels, if the CRC sequence is opposite too.
 use Rattle.std.proofs.Common.{◌≡◌, ℕ, suc, zero, ◌+◌, Bool, true, false, cond, List, [], ◌∷◌, length, refl, sym, ◌∙◌, ap, arith, replicate}
 use Rattle.std.proofs.Math.Dec.{eqb}
 use Rattle.can_frame.specs.declared.level.Level.{Level}
@@ -57,7 +57,7 @@ unfolding turned
 length-turned zero = refl
 length-turned (suc k) = length-added (turned k) (Recessive ∷ none k) (length-turned k)
 
--- an opposite level leads from a check sequence to its opposite
+-- an opposite level leads from a CRC sequence to its opposite
 pub next_check-opposite : (k : ℕ) (check : List Level) (x : Level) → length check ≡ 15 → xor (next_check k check x) (turned k) ≡ next_check k (xor check (turned (suc k))) (opposite x)
 next_check-opposite k check Dominant size =
     let t = turned k in

@@ -1,5 +1,5 @@
--- What is still to come of a frame's stuffed part, by what was heard last, and by the check sequence that the frame has if
--- only dominant data come. (Bosch CAN 2.0 part B, sections 3.2.1 and 6)
+-- The levels that still follow in a frame's stuffed part. They depend on the last level and its run, and on the CRC
+-- sequence that the frame has if only dominant data follow. (Bosch CAN 2.0 part B, sections 3.2.1 and 6)
 use Rattle.std.proofs.Props.{props}
 use Rattle.std.specs.Prelude.{ℕ, zero, suc, ◌≡◌, ◌+◌, ◌*◌, ◌^◌, ◌<◌, ◌==◌, max, if◌then◌else◌, List, ◌∷◌, ◌++◌, length, replicate, slice_get, Some}
 use Rattle.can_frame.specs.declared.level.Level.{Level}
@@ -10,45 +10,45 @@ use Rattle.can_wire.specs.Stuffing.{run_after, stuffed_from}
 use Rattle.can_longest.specs.declared.rows.Ahead.{Ahead}
 use Rattle.can_longest.specs.declared.rows.Row.{Row}
 
--- One level more, behind a run of this level and length.
+-- One more level, after a run of this level and length.
 
--- how many levels it is with its stuff bit
+-- its number of levels, with its stuff bit
 abbrev pub wire_levels : Level → ℕ → Level → ℕ
 wire_levels last run x = if run_after last run x == 5 then 2 else 1
 
--- the last of these
+-- the last of these levels
 abbrev pub next_last : Level → ℕ → Level → Level
 next_last last run x = if run_after last run x == 5 then opposite x else x
 
--- and the length of the run that it ends
+-- the length of the run that this one ends
 abbrev pub next_run : Level → ℕ → Level → ℕ
 next_run last run x = if run_after last run x == 5 then 1 else run_after last run x
 
--- the check sequence that was this one with a dominant level where x comes, and then k levels more
+-- the CRC sequence, which was `check` for a dominant level, if x comes and then k more levels
 abbrev pub next_check : ℕ → List Level → Level → List Level
 next_check k check x = xor check (crc_of (x ∷ replicate k Dominant))
 
--- how many levels come where the frame's rest is d, with the check sequence and all stuff bits
+-- the number of levels that follow if the frame's rest is d, with the CRC sequence and all stuff bits
 unfoldable pub to_come : Level → ℕ → List Level → List Level → ℕ
 to_come last run check d = length (stuffed_from last run (d ++ xor check (crc_of d)))
 
--- how many come at most where k levels and the check sequence come
+-- the maximum number that follow if k levels and the CRC sequence come
 unfoldable pub most : ℕ → Level → ℕ → List Level → ℕ
 most zero last run check = length (stuffed_from last run check)
 most (suc k) last run check =
     max (wire_levels last run Dominant + most k (next_last last run Dominant) (next_run last run Dominant) (next_check k check Dominant))
     (wire_levels last run Recessive + most k (next_last last run Recessive) (next_run last run Recessive) (next_check k check Recessive))
 
--- what comes at most where the first of the levels is x
+-- the maximum number that follow if the first level is x
 abbrev pub most_with : ℕ → Level → ℕ → List Level → Level → ℕ
 most_with k last run check x = wire_levels last run x + most k (next_last last run x) (next_run last run x) (next_check k check x)
 
--- the sum of two check sequences that are opposite at each place, behind k levels that are
+-- the sum of two CRC sequences that are opposite at each place, after k opposite levels
 unfoldable pub turned : ℕ → List Level
 turned zero = replicate 15 Recessive
 turned (suc k) = next_check k (turned k) Recessive
 
--- The table: by the check sequence, how many levels come at most behind one to four dominant levels.
+-- The table: for a CRC sequence, the maximum number of levels that follow one to four dominant levels.
 pub record IsAhead (k : ℕ) (check : List Level) (a : Ahead) : Type 0 where
   pub one : a.one ≡ most k Dominant 1 check
   pub two : a.two ≡ most k Dominant 2 check

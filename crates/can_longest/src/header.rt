@@ -1,4 +1,4 @@
-//! What is heard of a frame before its data, and its check sequence.
+//! The levels of a frame before its data, and its CRC sequence.
 ghost use Rattle.std.specs.Prelude.{◌≡◌, ◌+◌, ◌*◌, ◌^◌, ◌<◌, ◌≤◌, ◌++◌, [], List, length, replicate};
 ghost use Rattle.can_frame.specs.declared.level.Level.{Level as Bit};
 ghost use Rattle.can_frame.specs.declared.level.Level.TheVariants.{Dominant};
@@ -14,14 +14,14 @@ use crate::hearing::{Heard, hear_bits};
 use can_frame::{Frame, Id};
 use can_wire::{FrameBits, PackedBits, head};
 
-/// What was heard of a frame, and the check sequence that it has if only dominant data come.
+/// The levels of a frame so far, and its CRC sequence if only dominant data follow.
 #[derive(Clone, Copy)]
 pub(crate) struct Begun {
     pub(crate) heard: Heard,
     pub(crate) check: u16,
 }
 
-/// What is heard before the data of the frames with this identifier, of this kind and with this DLC.
+/// Lays out the levels before the data of the frames with this identifier, kind and DLC.
 pub(crate) fn hear_header(id: Id, remote: bool, dlc: u8) -> Begun
     requires { dlc < 16 }
     ensures behind { (rest : List Bit) → length (stuffed_from Dominant 0 (header_of (with_bytes id remote dlc []) ++ rest)) ≡ result.heard.levels + length (stuffed_from result.heard.last result.heard.run rest) }
@@ -41,7 +41,7 @@ pub(crate) fn hear_header(id: Id, remote: bool, dlc: u8) -> Begun
     }
 }
 
-/// The frame of these whose data are all dominant.
+/// The frame of this kind whose data are all dominant.
 fn with_dominant_data(id: Id, remote: bool, dlc: u8) -> Frame
     requires { dlc < 16 }
     ensures { result ≡ with_bytes id remote dlc (replicate (byte_count remote dlc) 0) }

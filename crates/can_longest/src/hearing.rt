@@ -1,4 +1,4 @@
-//! Levels that are heard, one after another, with their stuff bits.
+//! Levels one after another, with their stuff bits.
 ghost use Rattle.std.specs.Prelude.{◌≡◌, ◌+◌, ◌*◌, ◌<◌, ◌≤◌, ◌++◌, List, length};
 ghost use Rattle.can_frame.specs.declared.level.Level.{Level as Bit};
 ghost use Rattle.can_frame.specs.Levels.{bits_of};
@@ -8,19 +8,19 @@ ghost use Rattle.can_longest.specs.ToCome.{next_last, next_run, wire_levels};
 use can_frame::Level;
 use can_wire::{LONGEST_RUN, run_after};
 
-/// Levels that were heard.
+/// The last level, its run, and the number of levels so far.
 #[derive(Clone, Copy)]
 pub(crate) struct Heard {
-    /// The last of them.
+    /// The last level.
     pub(crate) last: Level,
-    /// The length of the run that it ends; 0 where none was heard.
+    /// The length of the run that it ends; 0 if there is no level.
     pub(crate) run: u8,
-    /// How many they are, stuff bits among them.
+    /// The number of levels, stuff bits included.
     pub(crate) levels: u16,
 }
 
 impl Heard {
-    /// No level. The start of frame, which is dominant, begins a run.
+    /// No levels. The start of frame, which is dominant, begins a run.
     pub(crate) const NONE: Heard = Heard {
         last: Level::Dominant,
         run: 0,
@@ -28,7 +28,7 @@ impl Heard {
     };
 }
 
-/// One level more, with its stuff bit.
+/// Takes one more level, with its stuff bit.
 #[inline]
 pub(crate) fn hear(heard: Heard, level: Level) -> Heard
     requires short { heard.run < 5 }
@@ -56,7 +56,7 @@ pub(crate) fn hear(heard: Heard, level: Level) -> Heard
     }
 }
 
-/// The lowest bits of a number more, the highest first.
+/// Takes the lowest bits of a number, the highest first.
 pub(crate) fn hear_bits(before: Heard, number: u64, count: usize) -> Heard
     requires few { count ≤ 39 }
     requires short { before.run < 5 }

@@ -1,4 +1,4 @@
-//! The rows of the table: how many levels come at most, by how many levels of data come.
+//! The rows of the table: the maximum number of levels that follow, by the number of data levels.
 ghost use Rattle.std.specs.Prelude.{◌≡◌, ◌+◌, ◌*◌, ◌^◌, ◌<◌, ◌≤◌, IfOk, List, ℕ, length, max, suc};
 ghost use Rattle.can_frame.specs.declared.level.Level.{Level as Bit};
 ghost use Rattle.can_frame.specs.declared.level.Level.TheVariants.{Dominant};
@@ -11,16 +11,16 @@ use crate::sums::added;
 use can_frame::Level;
 use std::alloc::{AllocError, Global};
 
-/// How many bits a check sequence has.
+/// The number of bits of a CRC sequence.
 const CHECK_BITS: usize = 15;
 
-/// How many check sequences there are.
+/// The number of CRC sequences.
 const CHECKS: u16 = 0x8000;
 
-/// The check sequence of recessive levels alone.
+/// The CRC sequence whose levels are all recessive.
 const ALL_RECESSIVE: u16 = 0x7fff;
 
-/// How many levels come at most behind one, two, three and four dominant levels.
+/// The maximum number of levels that follow one, two, three and four dominant levels.
 #[derive(Clone, Copy)]
 pub(crate) struct Ahead {
     one: u8,
@@ -30,7 +30,7 @@ pub(crate) struct Ahead {
 }
 
 impl Ahead {
-    /// How many come at most behind a run of so many.
+    /// The maximum number that follow a run of this length.
     #[inline]
     fn behind(self, run: u8) -> u8
         requires some { 1 ≤ run }
@@ -49,14 +49,14 @@ impl Ahead {
 /// A row of the table.
 #[derive(Drop)]
 pub(crate) struct Row {
-    /// The sum of two check sequences that are opposite at each place, behind data that are.
+    /// The sum of two CRC sequences that are opposite at each place, after opposite data.
     turned: u16,
-    /// What comes at most, by the check sequence that the frame has if only dominant data come.
+    /// The maximum number of levels that follow, by the CRC sequence that the frame has if only dominant data follow.
     ahead: Vec<Ahead>,
 }
 
 impl Row {
-    /// How many levels come at most behind what was heard.
+    /// The maximum number of levels that follow these.
     pub(crate) fn most(&self, heard: Heard, check: u16) -> u8
         requires turned { self.now.turned < 2 ^ 15 }
         requires full { length self.now.ahead.items ≡ 2 ^ 15 }
@@ -69,7 +69,8 @@ impl Row {
         self.ahead[usize::from(place)].behind(heard.run)
     }
 
-    /// The check sequence with which as much comes behind dominant levels as with this one behind levels like the last.
+    /// The CRC sequence with which the same number of levels follows dominant levels as with `check` follows levels
+    /// like the last.
     #[inline]
     fn place(&self, last: Level, check: u16) -> u16
         requires turned { self.now.turned < 2 ^ 15 }
@@ -85,7 +86,7 @@ impl Row {
     }
 }
 
-/// The row where no data come any more.
+/// The row for no more data.
 pub(crate) fn last_row(alloc: Global) -> Result<Row, AllocError>
     ensures { IfOk result (IsRow 0) }
 {
@@ -104,7 +105,7 @@ pub(crate) fn last_row(alloc: Global) -> Result<Row, AllocError>
     })
 }
 
-/// How many levels a check sequence is with its stuff bits, behind a run of so many dominant levels.
+/// The number of levels of a CRC sequence with its stuff bits, after a run of `run` dominant levels.
 fn check_levels(run: u8, check: u16) -> u8
     requires short { run < 5 }
     requires range { check < 2 ^ 15 }
@@ -118,7 +119,7 @@ fn check_levels(run: u8, check: u16) -> u8
     hear_bits(before, u64::from(check), CHECK_BITS).levels as u8
 }
 
-/// The row where one level more of data comes.
+/// The row for one more level of data.
 pub(crate) fn row_before(alloc: Global, bits: usize, later: &Row) -> Result<Row, AllocError>
     requires row { IsRow bits later.now }
     requires few { bits < 64 }
@@ -135,8 +136,9 @@ pub(crate) fn row_before(alloc: Global, bits: usize, later: &Row) -> Result<Row,
     Ok(Row { turned, ahead })
 }
 
-/// How many levels come at most where one level more comes: behind it these, if it is dominant and not the fifth; so many
-/// behind it and its stuff bit, if it is the fifth; and so many, if it is recessive.
+/// The maximum number of levels if one more level comes. `dominant` are the entries after it, if it is dominant and not
+/// the fifth; `fifth` is the entry after it and its stuff bit, if it is the fifth; `recessive` is the entry after it,
+/// if it is recessive.
 #[inline]
 fn with_level(dominant: Ahead, fifth: u8, recessive: u8) -> Ahead
     requires two { dominant.two < 200 }
@@ -157,7 +159,7 @@ fn with_level(dominant: Ahead, fifth: u8, recessive: u8) -> Ahead
     }
 }
 
-/// The row where one byte more of data comes.
+/// The row for one more byte of data.
 pub(crate) fn byte_before(alloc: Global, bytes: usize, later: &Row) -> Result<Row, AllocError>
     requires row { IsRow (8 * bytes) later.now }
     requires few { bytes < 8 }

@@ -1,4 +1,4 @@
-//! What levels add to a check sequence.
+//! What levels add to a CRC sequence.
 ghost use Rattle.std.specs.Prelude.{◌≡◌, ◌^◌, ◌<◌, ◌≤◌, ◌++◌, replicate};
 ghost use Rattle.can_frame.specs.declared.level.Level.TheVariants.{Dominant};
 ghost use Rattle.can_frame.specs.Levels.{bits_of};
@@ -6,7 +6,7 @@ ghost use Rattle.can_wire.specs.Crc.{crc_of};
 
 use can_wire::{FrameBits, PackedBits};
 
-/// What the lowest bits of a number, the highest first, add to a check sequence where so many levels come behind them.
+/// What the lowest bits of a number, the highest first, add to a CRC sequence if `behind` levels follow them.
 pub(crate) fn added(number: u64, count: usize, behind: usize) -> u16
     requires few { count ≤ 8 }
     requires small { number < 2 ^ count }

@@ -1,4 +1,4 @@
-//! The longest wires.
+//! The table of maximum lengths.
 ghost use Rattle.std.specs.Prelude.{◌≡◌, ◌+◌, ◌*◌, ◌^◌, ◌<◌, ◌≤◌, ◌++◌, List, length, replicate};
 ghost use Rattle.can_frame.specs.declared.level.Level.{Level as Bit};
 ghost use Rattle.can_frame.specs.declared.level.Level.TheVariants.{Dominant};
@@ -18,13 +18,13 @@ use arrayvec::ArrayVec;
 use can_frame::Id;
 use std::alloc::{AllocError, Global};
 
-/// How many data bytes a frame has at most.
+/// The maximum number of data bytes of a frame.
 const MOST_BYTES: usize = 8;
 
-/// How many levels of a frame are never stuffed.
+/// The number of levels of a frame that are never stuffed.
 const TAIL: u16 = 10;
 
-/// How long frames are at most, by what is heard before their data.
+/// The maximum lengths of frames, by the levels before their data.
 #[derive(Drop)]
 pub struct LongestWires {
     rows: Vec<Row>,
@@ -32,7 +32,7 @@ pub struct LongestWires {
 }
 
 impl LongestWires {
-    /// The table of all frames.
+    /// Computes the table for all frames.
     pub fn new(alloc: Global) -> Result<LongestWires, AllocError> {
         let mut rows = Vec::with_capacity(alloc, MOST_BYTES + 1)?;
         rows.push(last_row(alloc)?)?;
@@ -43,7 +43,8 @@ impl LongestWires {
         Ok(LongestWires { rows })
     }
 
-    /// How many levels the longest wire has of the frames with this identifier, of this kind and with this DLC.
+    /// Returns the maximum number of levels of a frame with this identifier, kind and DLC. Intermission is not
+    /// included.
     pub fn longest_wire(&self, id: Id, remote: bool, dlc: u8) -> u16
         requires { dlc < 16 }
         ensures longest { IsLongestWire id remote dlc result }
@@ -54,7 +55,7 @@ impl LongestWires {
         begun.heard.levels + u16::from(most) + TAIL
     }
 
-    /// Data that make the wire as long as it is at most.
+    /// Returns data with which the frame has its maximum number of levels.
     pub fn longest_data(&self, id: Id, remote: bool, dlc: u8) -> ArrayVec<u8, 8>
         requires { dlc < 16 }
         ensures frame { IsFrameOf id remote dlc (with_bytes id remote dlc result.items) }
@@ -72,7 +73,7 @@ impl LongestWires {
         data
     }
 
-    /// A byte of data behind which as much may come as at most comes of it and of so many bytes more.
+    /// A data byte with which the maximum for it and `left` more bytes can still be reached.
     fn longest_octet(&self, left: usize, begun: Begun) -> Chosen
         requires few { left < 8 }
         requires some { 1 ≤ begun.heard.run }
@@ -104,7 +105,7 @@ impl LongestWires {
         unreachable!()
     }
 
-    /// How many levels come at most where so many bytes of data come.
+    /// The maximum number of levels that follow with `bytes` bytes of data.
     #[inline]
     fn most(&self, bytes: usize, begun: Begun) -> u8
         requires few { bytes ≤ 8 }
@@ -121,11 +122,11 @@ impl LongestWires {
 #[derive(Clone, Copy)]
 struct Chosen {
     octet: u8,
-    /// What was heard with it.
+    /// The levels so far, this byte included.
     begun: Begun,
 }
 
-/// How many data bytes a frame has.
+/// The number of data bytes of a frame.
 fn byte_count(remote: bool, dlc: u8) -> usize
     ensures value { result ≡ byte_count_of remote dlc }
     ensures few { result ≤ 8 }

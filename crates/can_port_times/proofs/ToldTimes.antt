@@ -167,7 +167,7 @@ module _ (node : ℕ) (t : ℕ) where
   own-none [] p none = refl
   own-none (offer ∷ offers) p none = own-other offer offers p (none 0 offer refl) ∙ own-none offers p (λ n later at. none (suc n) later at)
 
-  -- behind the last of this time
+  -- after the last of this time
   pub own-rest : (offers : List Offer) (place : ℕ) (p : PortState) → ((n : ℕ) (offer : Offer) → place ≤ n → slice_get offers n ≡ Some offer → offer.time ≢ t) →
       own_made node (drop place offers) t p ≡ p
   own-rest [] zero p none = refl
@@ -196,7 +196,7 @@ module _ (node : ℕ) (t : ℕ) where
 
 -- ---- a scenario's ports
 
--- what all ports are offered stands in the order of time
+-- the offers to all ports are in the order of time
 pub meanwhile-offered : (hits : List Hit) (s : Scenario) → AreOffered (length s.ports.items) (offers_meanwhile hits s)
 meanwhile-offered [] s = offered s.ports.items
 meanwhile-offered (hit ∷ hits) s = λ place item there. absurd (let e : None ≡ Some item = there in cc)
@@ -221,7 +221,7 @@ told-known (hit ∷ hits) s node plan seen there known =
     (λ t p at. disturbed-next (hit ∷ hits) t (waiting_bus s) node p at)
     seen (waiting_port plan) (run-first (hit ∷ hits) (waiting_bus s) node (waiting_port plan) (first-at waiting_port s.ports.items node plan there)) known
 
--- where the levels are those that were recorded, a port sees those that it sees
+-- if the levels are those that were recorded, a port sees those that it sees
 pub seen-known : (s : Scenario) (node : ℕ) (levels seen : List Level) → levels ≡ recorded_levels s → length seen ≡ length levels → AreSeen s.hits.items node levels seen →
     (t : ℕ) → t < length seen → slice_get seen t ≡ Some (level_seen s node t)
 seen-known s node levels seen are size sees t h =
@@ -232,12 +232,12 @@ seen-known s node levels seen are size sees t h =
     )
     )
 
--- ---- port behind port
+-- ---- one port after another
 
 pub first-none : (s : Scenario) → AreFirstTold s 0 []
 first-none s = record { each = let none : 0 * s.bits ≡ 0 = zero-mul s.bits in omega (arith, none); told = λ node h. absurd (omega arith) }
 
--- what the next port does stands behind what the first ones do
+-- the bit times of the next port follow those of the first ones
 pub first-next : (s : Scenario) (ports : ℕ) (times told : List PortTime) → AreFirstTold s ports times → AreTold s ports told → AreFirstTold s (suc ports) (times ++ told)
 first-next s ports times told are is =
     let all : length times ≡ ports * s.bits = are.each in

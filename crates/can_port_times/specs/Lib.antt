@@ -1,2 +1,2 @@
--- To believe: what public calls promise is said in these words
+-- To believe: the definitions in which public calls state what they promise
 pub mod PortTimes

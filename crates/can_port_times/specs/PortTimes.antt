@@ -21,7 +21,7 @@ use Rattle.can_port_times.specs.declared.port_times.Stage.TheVariants as stage
 use Rattle.can_scenario_text.specs.declared.scenario.PortPlan.{PortPlan}
 use Rattle.can_scenario_text.specs.declared.scenario.Scenario.{Scenario}
 
--- ---- what is told
+-- ---- what is reported
 
 abbrev pub stage_of : MacPhase → Stage
 stage_of (Joining row) = stage.Joining
@@ -63,9 +63,9 @@ port_time p seen = record {
   brought = brought (port_event p seen);
 }
 
--- ---- when
+-- ---- at which time
 
--- the bus as a bit time begins, behind the offers of this time
+-- the bus at the beginning of a bit time, after the offers of this time
 abbrev pub bus_by : List Hit → Scenario → ℕ → BusState
 bus_by [] s t = record (played (scenario_offers s) t (made_bus s)) { ports = all_made (scenario_offers s) t (played (scenario_offers s) t (made_bus s)).ports }
 bus_by (hit ∷ hits) s t = bus_run (hit ∷ hits) t (waiting_bus s)
@@ -73,30 +73,30 @@ bus_by (hit ∷ hits) s t = bus_run (hit ∷ hits) t (waiting_bus s)
 abbrev pub bus_at : Scenario → ℕ → BusState
 bus_at s t = bus_by s.hits.items s t
 
--- the level that the port of this number sees at time t
+-- the level that the port with this number sees at time t
 abbrev pub seen_under : List Hit → Scenario → ℕ → ℕ → Level
 seen_under hits s node t = inverted_if (list_any (hits_view t node) hits) (level_by hits s t)
 
 abbrev pub level_seen : Scenario → ℕ → ℕ → Level
 level_seen s node t = seen_under s.hits.items s node t
 
--- what the port of this number does in each bit time
+-- these are the state and actions of the port with this number in each bit time
 pub record AreTold (s : Scenario) (node : ℕ) (times : List PortTime) : Type 0 where
   pub each : length times ≡ s.bits
   pub told : (t : ℕ) (p : PortState) → t < s.bits → slice_get (bus_at s t).ports node ≡ Some p → slice_get times t ≡ Some (port_time p (level_seen s node t))
 
--- what the first ports do, as many as are said, port behind port
+-- these are those of the first `ports` ports, one port after another
 pub record AreFirstTold (s : Scenario) (ports : ℕ) (times : List PortTime) : Type 0 where
   pub each : length times ≡ ports * s.bits
   pub told : (node : ℕ) → node < ports → AreTold s node (take s.bits (drop (node * s.bits) times))
 
--- what all ports do, port behind port
+-- these are those of all ports, one port after another
 abbrev pub AreAllTold : Scenario → List PortTime → Type 0
 AreAllTold s times = AreFirstTold s (length s.ports.items) times
 
--- ---- the same, of one port alone
+-- ---- this for one port alone
 
--- the port of this number as the run begins, and what all ports are offered meanwhile
+-- the port of a plan at the beginning of the run, and what all ports are offered during the run
 abbrev pub first_port : List Hit → PortPlan → PortState
 first_port [] plan = made_port plan
 first_port (hit ∷ hits) plan = waiting_port plan
@@ -105,16 +105,16 @@ abbrev pub offers_meanwhile : List Hit → Scenario → List Offer
 offers_meanwhile [] s = scenario_offers s
 offers_meanwhile (hit ∷ hits) s = []
 
--- the port is made the offers of this time that name it, in their order
+-- the port after the offers of this time that name it, in their order
 abbrev pub own_made : ℕ → List Offer → ℕ → PortState → PortState
 own_made node [] t p = p
 own_made node (offer ∷ offers) t p = own_made node offers t (if (offer.time == t) && (offer.node == node) then with_offer offer.frame p else p)
 
--- from time t on it sees these levels
+-- its bit times from time t on, if it sees these levels
 abbrev pub told_from : ℕ → List Offer → ℕ → PortState → List Level → List PortTime
 told_from node offers t p [] = []
 told_from node offers t p (x ∷ seen) = port_time (own_made node offers t p) x ∷ told_from node offers (t + 1) (port_step (own_made node offers t p) x) seen
 
--- where these levels are recorded, the port of this number sees those
+-- if these levels are recorded, the port with this number sees those
 abbrev pub AreSeen : List Hit → ℕ → List Level → List Level → Type 0
 AreSeen hits node levels seen = (t : ℕ) (d : Level) → t < length levels → get_or seen t d ≡ inverted_if (list_any (hits_view t node) hits) (get_or levels t d)

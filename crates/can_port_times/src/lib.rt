@@ -1,11 +1,11 @@
-//! What the ports of a scenario do in each bit time of its run.
+//! The state and actions of the ports of a scenario in each bit time of its run.
 //!
 //! | File | What it has | Defined in |
 //! |---|---|---|
-//! | `port_times.rt` | [`told_times`], what a port does in each bit time, and [`all_told_times`], what each does: [`PortTime`]s, each with a [`Stage`] and what is [`Brought`] | `specs/PortTimes.antt` |
+//! | `port_times.rt` | [`told_times`], the bit times of one port, and [`all_told_times`], those of all: [`PortTime`]s, each with a [`Stage`] and the event, [`Brought`] | `specs/PortTimes.antt` |
 //!
-//! A port is played alone, over the levels that it saw and with the offers that were made to it. `ToldTimes` has that
-//! it does the same among the others.
+//! A port is simulated alone, from the levels that it saw and the frames that were offered to it. `ToldTimes` proves
+//! that it does the same as on the bus with the others.
 #![tactic(auto)]
 
 mod port_times;

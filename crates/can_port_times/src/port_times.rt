@@ -1,4 +1,4 @@
-//! What a port does in each bit time of a run.
+//! The state and actions of a port in each bit time of a run.
 ghost use Rattle.std.specs.Prelude.{ℕ, ◌≡◌, ◌+◌, ◌<◌, if◌then◌else◌, List, [], ◌∷◌, ◌++◌, length, get_or, IfOk};
 ghost use Rattle.can_bus.specs.Offers.{AreOffered};
 ghost use Rattle.can_bus.specs.Run.{hits_view};
@@ -18,12 +18,12 @@ use can_node::{PackedNode, Port};
 use can_trace::{PortPlan, Scenario, made_port, offer_all, offers_in_time, run_to_end};
 use std::alloc::{AllocError, Global};
 
-/// Where a controller is in the traffic on the bus: its phase, by its name.
+/// The phase of a controller, without its contents.
 #[derive(Clone, Copy, Debug, PartialEq, Eq)]
 pub enum Stage {
     Joining,
     Idle,
-    /// Between the start of frame and the end of the CRC sequence.
+    /// From the start of frame to the end of the CRC sequence.
     StuffedPart,
     CrcDelimiter,
     AckSlot,
@@ -34,22 +34,22 @@ pub enum Stage {
     /// A passive error flag.
     PassiveFlag,
     OverloadFlag,
-    /// Behind a flag, before the first recessive level.
+    /// After a flag, before the first recessive level.
     AfterFlag,
-    /// The delimiter behind a flag.
+    /// The delimiter after a flag.
     Delimiter,
     Intermission,
     Suspend,
     BusOff,
 }
 
-/// What a bit time brings to a controller.
+/// The event of a bit time at a controller.
 #[derive(Clone, Copy, Debug, PartialEq, Eq)]
 pub enum Brought {
     Nothing,
-    /// The last level of its frame has gone out.
+    /// The last level of its frame has been transmitted.
     Sent,
-    /// A frame has come in.
+    /// A frame has been received.
     Received,
     /// Arbitration was lost.
     Lost,
@@ -63,11 +63,11 @@ pub enum Brought {
     Recovered,
 }
 
-/// A port as a bit time begins, and what it does in it.
+/// A port at the beginning of a bit time, and what it does in it.
 #[derive(Clone, Copy, Debug, PartialEq, Eq)]
 pub struct PortTime {
     pub stage: Stage,
-    /// Whether it is the sender of the frame on the bus.
+    /// Whether it is the transmitter of the frame on the bus.
     pub sends: bool,
     /// The transmit error counter.
     pub transmit: u16,
@@ -75,12 +75,13 @@ pub struct PortTime {
     pub receive: u16,
     /// The level that it drives.
     pub drove: Level,
-    /// The level that it sees: the recorded one, or its opposite where it alone is disturbed.
+    /// The level that it samples: the recorded one, or its opposite after an injected bit error for this port alone.
     pub saw: Level,
     pub brought: Brought,
 }
 
-/// What the port of this number does in each bit time of the scenario's run. It fails only where an allocation does.
+/// Returns the state and actions of the port with this number in each bit time of the scenario's run. It fails only if
+/// an allocation fails.
 pub fn told_times(
     alloc: Global,
     scenario: &Scenario,
@@ -96,8 +97,8 @@ pub fn told_times(
     Ok(times)
 }
 
-/// What each port does in each bit time of the scenario's run, told by one run of the bus: port behind port, so that
-/// bit time t of port n stands at n times the number of bit times, and t. It fails only where an allocation does.
+/// Returns the state and actions of all ports in each bit time of the scenario's run, computed in one run of the bus.
+/// Bit time t of port n is at index n times the number of bit times, plus t. It fails only if an allocation fails.
 pub fn all_told_times(alloc: Global, scenario: &Scenario) -> Result<Vec<PortTime>, AllocError>
     ensures { IfOk result (λ times. AreAllTold scenario.now times.items) }
 {
@@ -110,8 +111,8 @@ pub fn all_told_times(alloc: Global, scenario: &Scenario) -> Result<Vec<PortTime
     Ok(times)
 }
 
-/// Puts what the port of this number does behind what is told already. The levels were recorded, and the offers made,
-/// as the scenario ran.
+/// Appends the bit times of the port with this number. `levels` were recorded, and `offers` made, in the scenario's
+/// run.
 fn tell_port(
     alloc: Global,
     scenario: &Scenario,
@@ -130,7 +131,7 @@ fn tell_port(
     replay(port, node, offers, &seen, times)
 }
 
-/// The port of this plan as a run with these disturbances begins.
+/// The port of this plan at the beginning of a run with these injected bit errors.
 fn beginning(alloc: Global, hits: &[Hit], plan: &PortPlan) -> Result<PackedNode, AllocError>
     ensures { IfOk result (λ port. ⟦<PackedNode as Port>⟧.port port ≡ first_port hits.now plan.now) }
 {
@@ -141,7 +142,7 @@ fn beginning(alloc: Global, hits: &[Hit], plan: &PortPlan) -> Result<PackedNode,
     Ok(port)
 }
 
-/// The offers that are made while the scenario runs.
+/// The offers that are made during the scenario's run.
 fn meanwhile(alloc: Global, scenario: &Scenario) -> Result<Vec<Offer>, AllocError>
     ensures { IfOk result (λ offers. offers.items ≡ offers_meanwhile scenario.now.hits.items scenario.now) }
 {
@@ -152,7 +153,7 @@ fn meanwhile(alloc: Global, scenario: &Scenario) -> Result<Vec<Offer>, AllocErro
     }
 }
 
-/// The levels that the port of this number sees where these are recorded.
+/// The levels that the port with this number sees, if these are recorded.
 fn seen_levels(
     alloc: Global,
     hits: &[Hit],
@@ -169,7 +170,7 @@ fn seen_levels(
     Ok(seen)
 }
 
-/// These levels in memory of their own.
+/// A copy of these levels.
 fn copied(alloc: Global, levels: &[Level]) -> Result<Vec<Level>, AllocError>
     ensures { IfOk result (λ copy. copy.items ≡ levels.now) }
 {
@@ -180,7 +181,7 @@ fn copied(alloc: Global, levels: &[Level]) -> Result<Vec<Level>, AllocError>
     Ok(copy)
 }
 
-/// Where the hit falls on what this port sees, that is the opposite of the recorded level.
+/// If the hit is on this port's view, makes the level at its time the opposite of the recorded one.
 fn see_hit(hit: Hit, node: usize, levels: &[Level], seen: &mut [Level])
     requires { length seen.old ≡ length levels.now }
     ensures each { length seen.new ≡ length levels.now }
@@ -194,8 +195,7 @@ fn see_hit(hit: Hit, node: usize, levels: &[Level], seen: &mut [Level])
     }
 }
 
-/// Puts what a port does that sees these levels, one a bit time, and is made those of these offers that name it, behind
-/// what is told already.
+/// Appends the bit times of a port that sees these levels, one a bit time, and gets those of the offers that name it.
 fn replay(
     mut port: PackedNode,
     node: usize,
@@ -236,7 +236,7 @@ fn offer_own<P: Port>(port: &mut P, node: usize, offer: Offer)
     }
 }
 
-/// Has a port see a level, and tells what it does.
+/// Gives the port a level to sample, and returns what it does.
 fn tell(port: &mut PackedNode, seen: Level) -> PortTime
     ensures told { result ≡ port_time (⟦<PackedNode as Port>⟧.port port.old) seen }
     ensures port { ⟦<PackedNode as Port>⟧.port port.new ≡ port_step (⟦<PackedNode as Port>⟧.port port.old) seen }
@@ -257,7 +257,7 @@ fn tell(port: &mut PackedNode, seen: Level) -> PortTime
     }
 }
 
-/// Where a controller is, by the name of its phase.
+/// The stage of a phase.
 fn stage_in<B: FrameBits>(phase: &Phase<Front<B>>) -> Stage
     ensures { result ≡ stage_of phase.now }
 {
@@ -280,7 +280,7 @@ fn stage_in<B: FrameBits>(phase: &Phase<Front<B>>) -> Stage
     }
 }
 
-/// Whether a controller is the sender of the frame on the bus.
+/// Whether a controller is the transmitter of the frame on the bus.
 fn is_sender(role: &Role) -> bool
     ensures { result ≡ is_sender_of role.now }
 {
@@ -290,7 +290,7 @@ fn is_sender(role: &Role) -> bool
     }
 }
 
-/// What an event is, without its frame.
+/// The event without its frame.
 fn brought_by(event: Option<Event>) -> Brought
     ensures { result ≡ brought event }
 {

@@ -1,4 +1,5 @@
--- The disturbances of a document: how its lists are read, and that they are in order one behind another.
+-- The injected bit errors of a document: how its lists are read, and that they are in order one after
+-- another.
 use Rattle.std.specs.List.{slice_get, AllByRecursion}
 use Rattle.std.proofs.Common.{◌≡◌, ℕ, zero, suc, ◌+◌, true, List, [], ◌∷◌, ◌++◌, length, get_or, drop, map, Option, Some, None, IfSome, Err, IsErrOf, ◌<◌, refl, sym, ap, ◌∙◌, subst, inl, inr, ◌⊎◌, pos, append_assoc, append-nil, arith}
 use Rattle.std.proofs.lemmas.List.{drop_more}
@@ -163,7 +164,7 @@ in_below (hit.In attempt offset) (hit.View time node) low high = refl
 in_below (hit.At time) h low high = absurd low
 in_below (hit.View time node) h low high = absurd low
 
--- the three lists one behind another say all disturbances of the document
+-- the three lists one after another describe all hits of the document
 pub SaysHits-three : (document : Data) (start first second third : List Hit) → start ≡ [] →
     AddsHits At (elements_in (named (list_name At) document)) start first → AddsHits In (elements_in (named (list_name In) document)) first second → AddsHits View (elements_in (named (list_name View) document)) second third →
     SaysHits document third

@@ -44,7 +44,7 @@ no_port-wrong : IsWrongScenarioField field.Ports no_port
 no_port-wrong =
     inr (no_port_data, record { utf8 = search rules; members = _; parsed = no_port-parsed; is_table = refl }, inr (refl, inr (refl, inr ((5, refl, omega arith), inl (refl, λ none. none)))))
 
--- an unknown field is told, whatever else is wrong
+-- an unknown field is reported, whatever else is wrong
 speed-parsed : parse_document (codes "speed = 1\n") ≡ Some (member (codes "speed") (integer (pos 1)) no_members)
 unfolding toml_on_literals
 speed-parsed = refl
@@ -78,7 +78,7 @@ at_three-frame = record { time = 3; frame = string (codes "S 001 D 0"); pair = r
 timed-met : AllMet (scenario_demands (with_element 2 at_three))
 timed-met = (refl, (refl, ((5, refl, omega arith), (((_, refl), omega arith, omega arith), ((_, refl), (refl, ((_, refl), (at_three-frame, (tt, (tt, (tt, (tt, (tt, (tt, tt))))))))))))))
 
--- what is told of an element that is none of version 2
+-- the fault of an element that is invalid in version 2
 told : (element : Data) → (IsTimedFrameValue element → ⊥) → IsFirstUnmet (field.Port 0 (of_port.Frame 0)) (scenario_demands (with_element 2 element))
 told element none =
     inr (refl, inr (refl, inr ((5, refl, omega arith), inr (((_, refl), omega arith, omega arith), inr ((_, refl), inr (refl, inr ((_, refl), inl (refl, none))))))))
@@ -87,7 +87,7 @@ told element none =
 untimed-told : IsFirstUnmet (field.Port 0 (of_port.Frame 0)) (scenario_demands (with_element 2 (string (codes "S 001 D 0"))))
 untimed-told = told (string (codes "S 001 D 0")) (λ is. let e : string (codes "S 001 D 0") ≡ array (item (integer (pos is.time)) (item is.frame no_items)) = is.pair in cc)
 
--- `[1000001, "S 001 D 0"]` has none that may stand there
+-- `[1000001, "S 001 D 0"]` has a time that is too large
 too_late : Data
 too_late = array (item (integer (pos 1000001)) (item (string (codes "S 001 D 0")) no_items))
 
@@ -110,7 +110,7 @@ three-told =
     told three (λ is.
     let e : array (item (integer (pos 3)) (item (string (codes "S 001 D 0")) (item (integer (pos 0)) no_items))) ≡ array (item (integer (pos is.time)) (item is.frame no_items)) = is.pair in cc)
 
--- there is no version 3, and it is told before the queue
+-- there is no version 3, and it is reported before the queue
 version_three-told : IsFirstUnmet field.Version (scenario_demands (with_element 3 three))
 version_three-told = inr (refl, inl (refl, false≢true))
 

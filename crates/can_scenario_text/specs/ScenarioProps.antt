@@ -1,4 +1,4 @@
--- What holds of a scenario holds in one way: a struct may keep it as a ghost field.
+-- `AreTaken` is a proposition, so a struct may keep it as a ghost field.
 use Rattle.std.proofs.Props.{props}
 use Rattle.std.proofs.Common.{ℕ, List}
 use Rattle.can_hit.specs.declared.hit.Hit.{Hit}

@@ -3,8 +3,8 @@ ghost use Rattle.can_stream.specs.declared.field.Field.{Field as Wrong};
 ghost use Rattle.can_scenario_text.specs.declared.scenario.Scenario.{Scenario as Planned};
 ghost use Rattle.can_scenario_text.specs.Scenarios.{AreSameScenarios, IsWrongScenarioField, IsScenarioText};
 
-/// Bytes say at most one scenario; bytes that say one have no field that is told, and others have at
-/// most one.
+/// Bytes describe at most one scenario. Bytes that describe one have no wrong field; any others have
+/// at most one.
 pub fn one_scenario()
     ensures scenario { (bytes : List ℕ) (s t : Planned) → IsScenarioText bytes s → IsScenarioText bytes t → AreSameScenarios s t }
     ensures no_field { (bytes : List ℕ) (s : Planned) (wrong : Wrong) → IsScenarioText bytes s → IsWrongScenarioField wrong bytes → ⊥ }

@@ -1,23 +1,24 @@
-//! Scenarios as they are read: a bus with its ports, the frames that are offered to them and disturbances, from a document.
+//! Reads scenarios: a bus with its ports, the frames that are offered to them, and injected bit errors.
 //!
-//! [`Scenario::from_text`] reads one; can_trace runs it.
+//! [`Scenario::from_text`] reads one from a document; can_trace runs it.
 //!
 //! | File | What it has | Defined in |
 //! |---|---|---|
-//! | `scenario.rt` | [`Scenario`], a bus to be run, read from a document | `specs/Scenarios.antt` |
-//! | `scenario/document.rt` | the document, and its fields at the top | `specs/Scenarios.antt` |
+//! | `scenario.rt` | [`Scenario`], a bus to run, read from a document | `specs/Scenarios.antt` |
+//! | `scenario/document.rt` | the document, and its fields at the top level | `specs/Scenarios.antt` |
 //! | `scenario/ports.rt` | its ports | `specs/Scenarios.antt` |
-//! | `scenario/hits.rt` | its disturbances | `specs/Scenarios.antt` |
+//! | `scenario/hits.rt` | its injected bit errors | `specs/Scenarios.antt` |
 //! | `scenario/values.rt` | the elements of a queue; the readers of values are those of document_values | `specs/Scenarios.antt` |
 //! | `scenario/version.rt` | the versions of the format | |
 //! | `laws.rt` | that documents have one reading | `specs/Scenarios.antt` |
 //!
-//! `toml` makes a table of the text. What the table has to meet is a list of demands in the order in which they are
-//! tested; each step of the reading promises its part of that list, all met or the first that isn't, and
-//! `DemandLemmas` of document_values puts the parts together. What the scenario then is stands beside it, as a relation.
+//! `toml` makes a table of the text. The requirements on the table are a list of demands, in the order in which they
+//! are tested. The contract of each reading step states its part of the list: all are met, or which one is the first
+//! that is not. `DemandLemmas` of document_values combines the parts. A relation states which scenario the document
+//! then describes.
 //!
-//! Of the lemmas, `HitLemmas` has the disturbances of a document, `ScenarioParts` what a port and a document come to;
-//! `ScenarioRows` has a few documents, and `OneScenario` that a document says at most one scenario.
+//! `HitLemmas` has lemmas on the injected bit errors of a document, `ScenarioParts` on a port and a document.
+//! `ScenarioRows` has a few documents, and `OneScenario` proves that a document describes at most one scenario.
 #![tactic(auto)]
 
 mod laws;

@@ -1,4 +1,4 @@
-//! Scenarios: a bus with its ports, the frames that are offered to them, and disturbances.
+//! Scenarios: a bus with its ports, the frames that are offered to them, and injected bit errors.
 ghost use Rattle.std.specs.Prelude.{◌≤◌, length};
 ghost use Rattle.can_hit.specs.Hits.{AreTaken};
 ghost use Rattle.can_scenario_text.specs.ScenarioProps.{AreTaken-prop};
@@ -15,7 +15,7 @@ use can_stream::TraceFault;
 pub use can_stream::{Field, HitList, PortField};
 use std::alloc::Global;
 
-/// A bus to be run: its ports, 1 to 64 of them, how many bit times, and the disturbances, in order.
+/// A bus to run: its 1 to 64 ports, the number of bit times, and the injected bit errors in order.
 #[derive(Debug, Drop)]
 pub struct Scenario {
     pub bits: u32,
@@ -33,8 +33,8 @@ pub struct TimedFrame {
     pub frame: Frame,
 }
 
-/// A port before the run: the frames that it is offered, in any order of time, how many entries its log
-/// has room for, whether it has to join the bus, and how many overload frames it asks for.
+/// A port before the run: the frames that it is offered, in any order of time; the capacity of its log, in
+/// entries; whether it begins with bus integration; and how many overload frames it asks for.
 #[derive(Debug, Drop)]
 pub struct PortPlan {
     pub queue: Vec<TimedFrame>,
@@ -49,17 +49,30 @@ impl Scenario {
     ghost use Rattle.can_stream.specs.declared.field.Field.{Field as Wrong};
     ghost use Rattle.can_scenario_text.specs.Scenarios.{IsFieldOrMemory, IsWrongScenarioField, IsScenarioText};
 
-    /// The scenario that a TOML document says: `version`, 1 or 2; `bits`, 0 to 1000000; `port`, an
-    /// array of 1 to 64 tables; and in version 1 `at`, `in` and `view`, the disturbances, each list strictly
-    /// rising. A port has `queue`, `log`, 0 to 65536, `join`, a truth value, and `hold`, 0 to 2. A queue is
-    /// an array of frame texts, which are offered at time 0; in version 2 of arrays of a time, 0 to
-    /// 1000000, and a frame text. All but `version`, `bits` and `port` may be left out: an array is then
-    /// empty, `log` is 64, `join` false and `hold` 0.
+    /// Returns the scenario that a TOML document describes.
     ///
-    /// `ScenarioField` names the first field that is wrong, in this order: the document; an unknown
-    /// field; `version`, `bits` and `port`; of each port its table, an unknown field, `queue` and its
-    /// elements, `log`, `join` and `hold`; then `at`, `in` and `view`, each with its elements. `Memory`
-    /// says that memory ran out. The scenario holds all memory that it needs.
+    /// A document has these fields:
+    ///
+    /// - `version`: 1 or 2.
+    /// - `bits`: 0 to 1000000 bit times.
+    /// - `port`: an array of 1 to 64 tables.
+    /// - `at`, `in`, `view`: the injected bit errors, each list strictly rising. Only in version 1.
+    ///
+    /// A port has these fields:
+    ///
+    /// - `queue`: an array. In version 1 its elements are frame texts, which are offered at time 0. In
+    ///   version 2 they are arrays of a time, 0 to 1000000, and a frame text.
+    /// - `log`: the capacity of its log, 0 to 65536 entries.
+    /// - `join`: a truth value, whether the port begins with bus integration.
+    /// - `hold`: 0 to 2, the overload frames that it asks for.
+    ///
+    /// All fields except `version`, `bits` and `port` are optional. By default an array is empty, `log` is
+    /// 64, `join` false and `hold` 0.
+    ///
+    /// `ScenarioField` is the first wrong field in this order: the document; an unknown field; `version`,
+    /// `bits` and `port`; of each port its table, an unknown field, `queue` and its elements, `log`, `join`
+    /// and `hold`; then `at`, `in` and `view`, each with its elements. `Memory` means that memory allocation
+    /// failed. The scenario owns all memory that it needs.
     pub fn from_text(alloc: Global, text: &[u8]) -> Result<Scenario, TraceFault>
         ensures found { IfOk result (IsScenarioText text.now) }
         ensures wrong { (wrong : Wrong) → IsErrOf result (TraceFault.ScenarioField wrong) → IsWrongScenarioField wrong text.now }
@@ -76,7 +89,7 @@ impl Scenario {
         })
     }
 
-    /// How many ports there are.
+    /// The number of ports.
     pub fn port_count(&self) -> usize
         ensures { result ≡ length self.now.ports.items }
     {

@@ -18,7 +18,7 @@ module _ {R W : Type 0} (remaining : R → Option (List ℕ)) (r_before r : R) (
       related = told.related;
     }
 
-    -- the writer failed, where a part of what was to be written is related so
+    -- the writer failed, if a part of the output is related to the input in this way
     pub Told-unflushed : (Begins : List ℕ → List ℕ → Type 0)
         → ((input output taken left : List ℕ) → waiting ≡ taken ++ left → Related input (output ++ waiting) → Begins input (output ++ taken))
         → TakesFront (contents w) (contents w_after) waiting → Told remaining r_before r contents w_before w_after Begins

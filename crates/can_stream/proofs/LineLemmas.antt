@@ -12,7 +12,7 @@ use Rattle.can_stream.specs.Lines.{with_end, lines_of, ended_lines, onto_first, 
 abbrev pub is_end : ℕ → Bool
 is_end byte = byte == 10
 
--- the bytes behind the last line end, as the lines that they are
+-- the bytes after the last line end, as the lines that they are
 abbrev pub open_lines : List ℕ → List (List ℕ)
 open_lines [] = []
 open_lines (byte ∷ line) = (byte ∷ line) ∷ []
@@ -54,7 +54,7 @@ lines_of-open (byte ∷ line) h = rw (h.0, lines_of-open line h.1) (onto_open by
     onto_open b [] = refl
     onto_open b (c ∷ l) = refl
 
--- ---- where the first line ends
+-- ---- the end of the first line
 
 -- a front of the bytes in which no byte is a line end
 line_below : (xs : List ℕ) (n : ℕ) → ((k : ℕ) → k < n → is_end (get_or xs k 0) ≡ false) → IsLine (take n xs)

@@ -1,4 +1,4 @@
--- A text that is put in parts, one behind another.
+-- A text that is written in parts, one after another.
 use Rattle.std.proofs.Common.{◌≡◌, ℕ, List, [], ◌++◌, Option, Result, Ok, Err, refl, sym, ap, subst, ◌∙◌, append_assoc, append-nil}
 use Rattle.std.specs.Result.{OnOk, OnErr}
 use Rattle.std.proofs.KnownBytes.{Appends-trans, Appends-nil}

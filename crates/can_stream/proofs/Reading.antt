@@ -42,7 +42,7 @@ Reading-none before kept old now same empty = record {
 }
 
 module _ {before after : Option (List ℕ)} (kept : ℕ) (old now new : LineReader kept) where
-  -- the unread bytes went into the line, up to its end where it is among them
+  -- the unread bytes went into the line, before its end if it is among them
   pub ReadsLine-taken : (found : Bool) (part : List ℕ) → Reading before after kept old now → SplitsLine found now.inbox.unread [] part new.inbox.unread
       → new.line.items ≡ take kept (now.line.items ++ part) → new.inbox.taken ≡ now.inbox.taken → ReadsLine found before after kept old new
   ReadsLine-taken found part so_far splits keeps taken =
@@ -61,7 +61,7 @@ module _ {before after : Option (List ℕ)} (kept : ℕ) (old now new : LineRead
       }
 
 module _ {before between after : Option (List ℕ)} (kept : ℕ) (old now new : LineReader kept) (open_line : ReadsLine false before between kept old now) where
-  -- more bytes were read behind a line that isn't ended
+  -- more bytes were read after a line that is not ended
   pub Reading-more : Consumes between after new.inbox.unread → new.inbox.taken ≡ now.inbox.taken + length new.inbox.unread → new.line.items ≡ now.line.items
       → Reading before after kept old new
   Reading-more consumes taken line =
@@ -78,7 +78,7 @@ module _ {before between after : Option (List ℕ)} (kept : ℕ) (old now new : 
         keeps = line ∙ open_line.keeps;
       }
 
-  -- no bytes came behind it
+  -- no bytes came after it
   pub ReadsLine-stopped : Consumes between after new.inbox.unread → new.inbox.taken ≡ now.inbox.taken + length new.inbox.unread → new.line.items ≡ now.line.items
       → new.inbox.unread ≡ [] → ReadsLine false before after kept old new
   ReadsLine-stopped consumes taken line none =

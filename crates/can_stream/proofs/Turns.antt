@@ -21,11 +21,11 @@ Flushes-joined true held mid holds old between new passes fails =
     let front = subst (TakesFront mid holds) (sym (append-nil between)) fails.0 in
     (subst (TakesFront held holds) (append-nil old) (TakesFront-joined held mid holds old between [] [] passes front), fails.1)
 
--- where no write failed
+-- if no write failed
 pub PassesOn-flushed : (failed : Bool) (held holds : Option (List ℕ)) (old new : List ℕ) → failed ≡ false → Flushes failed held holds old new → PassesOn held holds old new []
 PassesOn-flushed failed held holds old new unfailed = subst (λ b. Flushes b held holds old new) unfailed
 
--- where one did
+-- if one did
 pub TakesFront-flushed : (failed : Bool) (held holds : Option (List ℕ)) (old new : List ℕ) → failed ≡ true → Flushes failed held holds old new → TakesFront held holds old × (new ≡ [])
 TakesFront-flushed failed held holds old new is_failed = subst (λ b. Flushes b held holds old new) is_failed
 
@@ -36,7 +36,7 @@ same-flushed held holds output waiting waiting_now passes =
 
 -- ---- why no more is read
 
--- where the reader stops, it is for no failed write
+-- if the reader stops, the cause is not a failed write
 pub unwritten : (fault : TraceFault) (failed : Bool) (taken : ℕ) → StopsReading fault failed taken → is_write fault ≡ false
 unwritten Read failed taken stops = refl
 unwritten Long failed taken stops = refl

@@ -1,9 +1,9 @@
--- What a stream has read, and not used yet.
+-- A read buffer: what was read and not yet used.
 use Rattle.std.specs.Prelude.{◌≡◌, ◌⊎◌, ℕ, ◌^◌, ◌<◌, Bool, true, false, List}
 use Rattle.can_stream.specs.declared.fault.TraceFault.{TraceFault}
 use Rattle.can_stream.specs.declared.fault.TraceFault.TheVariants.{BadByte, Read, Write, Long, FrameLine, ScenarioField, Memory}
 
--- the bytes that were read and not used yet, and how many bytes were read in all
+-- the bytes that were read and not yet used, and the number of bytes read in total
 pub record Received : Type 0 where
   pub unread : List ℕ
   pub taken : ℕ
@@ -18,6 +18,6 @@ StopsReading (FrameLine line fault) failed taken = ⊥
 StopsReading (ScenarioField wrong) failed taken = ⊥
 StopsReading Memory failed taken = ⊥
 
--- the same where what waits is written before each read: the writer failed too, and then nothing was read
+-- this if output is written before each read: the writer may also have failed, and then nothing was read
 abbrev pub StopsTurn : TraceFault → Bool → ℕ → Type 0
 StopsTurn fault failed taken = ((fault ≡ Write) × (failed ≡ false)) ⊎ StopsReading fault failed taken

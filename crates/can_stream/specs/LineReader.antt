@@ -1,4 +1,4 @@
--- What a contract sees of a reader of lines, and what reading a line does.
+-- A line reader, as contracts see it, and the effect of reading a line.
 use Rattle.std.specs.Prelude.{◌≡◌, ℕ, ◌+◌, Bool, false, List, length, take, Option, Result, Ok, Err}
 use Rattle.std.specs.Io.KnownBytes.{Consumes}
 use Rattle.can_stream.specs.Inbox.{Received}
@@ -10,7 +10,7 @@ use Rattle.can_stream.specs.declared.fault.TraceFault.{TraceFault}
 abbrev pub line_of : {kept : ℕ} → LineReader kept → List ℕ
 line_of reader = reader.line.items
 
--- what was read and not used yet
+-- what was read and not yet used
 abbrev pub inbox_of : {kept : ℕ} → LineReader kept → Received
 inbox_of reader = reader.inbox
 
@@ -19,8 +19,8 @@ abbrev pub is_found : Result Bool TraceFault → Bool
 is_found (Ok found) = found
 is_found (Err e) = false
 
--- An input was read, and it and the bytes that were unread are split into a line and the bytes that are
--- unread now. The first bytes of the line are kept.
+-- An input was read. It and the bytes that were unread are split into a line and the bytes that are unread now. The
+-- first bytes of the line are kept.
 pub record ReadsLine (found : Bool) (before after : Option (List ℕ)) (kept : ℕ) (old new : LineReader kept) : Type 0 where
   pub input : List ℕ
   pub line : List ℕ

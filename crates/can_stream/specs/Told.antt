@@ -1,11 +1,11 @@
--- What one call read and wrote, where its reader and its writer tell their bytes.
--- (docs/FORMATS.md, "Faults and statuses of the program")
+-- The input and output of one call, if its reader and its writer state their bytes. (docs/FORMATS.md, "Faults and
+-- statuses of the program")
 use Rattle.std.specs.Prelude.{ℕ, Bool, false, ◌==◌, ◌&&◌, not, List, Option, Result, Ok, Err}
 use Rattle.std.specs.Io.KnownBytes.{Consumes, Appends}
 
--- The call read the input from its reader and its writer took the output, and they are related so. What
--- the reader has left and what the writer holds is given before and after the call; where it is unknown,
--- the input or the output is any.
+-- The call read the input from its reader, its writer took the output, and `Related` is true of both. What the reader
+-- has left and what the writer contains are given before and after the call. If they are unknown, the input or the
+-- output may be any.
 pub record Told {R W : Type 0}
     (remaining : R → Option (List ℕ)) (before after : R)
     (contents : W → Option (List ℕ)) (held holds : W)
@@ -16,7 +16,7 @@ pub record Told {R W : Type 0}
   pub appends : Appends (contents held) (contents holds) output
   pub related : Related input output
 
--- the answer to a call with a slice of this length is that no byte was read or taken, though there was room for one
+-- a call with a slice of this length returned that no byte was read or taken, though the slice is not empty
 abbrev pub is_nothing : {E : Type 0} → Result ℕ E → ℕ → Bool
 is_nothing (Ok n) room = (n == 0) && not (room == 0)
 is_nothing (Err e) room = false

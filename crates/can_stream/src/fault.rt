@@ -6,28 +6,28 @@ use can_frame::TextFault;
 use std::alloc::AllocFailed;
 use thiserror::Error;
 
-/// Why a stream's answer is not whole.
+/// Why a stream's output is not complete.
 #[derive(Clone, Copy, Debug, PartialEq, Eq, Error)]
 pub enum TraceFault {
-    /// A byte stands where a level's digit should. Bytes of the input are counted from 0.
+    /// A byte of the input is not a digit, though a level is expected. Bytes are counted from 0.
     #[error("P1 byte {place}")]
     BadByte { place: u64 },
-    /// A scenario is refused for this field.
+    /// A scenario is invalid in this field.
     #[error("P2 {0}")]
     ScenarioField(Field),
-    /// The reader failed.
+    /// A read failed.
     #[error("P3 read")]
     Read,
-    /// The writer failed, or took no byte.
+    /// A write failed, or took no byte.
     #[error("P4 write")]
     Write,
-    /// Memory ran out.
+    /// Memory allocation failed.
     #[error("P5 memory")]
     Memory,
     /// The input has more than 2^63 bytes.
     #[error("P6 long")]
     Long,
-    /// A line is no frame text. Lines are counted from 1.
+    /// A line is not a frame text. Lines are counted from 1.
     #[error("P7 line {line} {fault}")]
     FrameLine { line: u64, fault: TextFault },
 }

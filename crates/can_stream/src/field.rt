@@ -1,42 +1,43 @@
-//! The fields of a scenario, as a refusal names them.
+//! The fields of a scenario, as a fault names them.
 use thiserror::Error;
 
-/// What is wrong in a scenario: the document, or one of its fields. Ports and elements are counted from 0.
+/// What is invalid in a scenario: the document, or one of its fields. Ports and elements are counted from
+/// 0.
 #[derive(Clone, Copy, Debug, PartialEq, Eq, Error)]
 pub enum Field {
-    /// The bytes are no UTF-8, or no TOML document.
+    /// The bytes are not UTF-8, or not a TOML document.
     #[error("toml")]
     Document,
-    /// A field at the top that isn't known.
+    /// An unknown field at the top level.
     #[error("key")]
     Unknown,
     /// The version.
     #[error("version")]
     Version,
-    /// How many bit times the run has.
+    /// The number of bit times of the run.
     #[error("bits")]
     Bits,
     /// The list of ports.
     #[error("port")]
     Ports,
-    /// Something of one port.
+    /// A part of one port.
     #[error("port[{number}]{part}")]
     Port { number: usize, part: PortField },
-    /// A list of disturbances.
+    /// A list of injected bit errors.
     #[error("{0}")]
     Hits(HitList),
-    /// An element of such a list.
+    /// An element of a list of injected bit errors.
     #[error("{list}[{place}]")]
     Hit { list: HitList, place: usize },
 }
 
-/// What is wrong in a port's table.
+/// What is invalid in a port's table.
 #[derive(Clone, Copy, Debug, PartialEq, Eq, Error)]
 pub enum PortField {
-    /// It isn't a table.
+    /// It is not a table.
     #[error("")]
     Table,
-    /// A field that isn't known.
+    /// An unknown field.
     #[error(".key")]
     Unknown,
     /// The list of frames.
@@ -45,10 +46,10 @@ pub enum PortField {
     /// An element of that list.
     #[error(".queue[{0}]")]
     Frame(usize),
-    /// How many entries the log has room for.
+    /// The capacity of the log, in entries.
     #[error(".log")]
     Log,
-    /// Whether the port has to join.
+    /// Whether the port begins with bus integration.
     #[error(".join")]
     Join,
     /// How many overload frames it asks for.
@@ -56,16 +57,16 @@ pub enum PortField {
     Hold,
 }
 
-/// The lists of disturbances, one for each kind.
+/// The lists of injected bit errors, one for each kind.
 #[derive(Clone, Copy, Debug, PartialEq, Eq, Error)]
 pub enum HitList {
-    /// Times at which the wired level is inverted.
+    /// Times at which the bus level is inverted.
     #[error("at")]
     At,
-    /// Places in attempts at which it is.
+    /// Attempts, and offsets in them, at which the bus level is inverted.
     #[error("in")]
     In,
-    /// Times at which one port alone samples the opposite.
+    /// Times at which one port alone samples the opposite level.
     #[error("view")]
     View,
 }

@@ -7,14 +7,14 @@ use crate::sink::Sink;
 use crate::source::Source;
 use std::marker::Model;
 
-/// How many bytes a read gives at most.
+/// The maximum number of bytes that one read returns.
 const CAPACITY: usize = 65536;
 
-/// How many bytes an input has at most, 2^63.
+/// The maximum number of bytes of an input, 2^63.
 const MAX_BYTES: u64 = 1 << 63;
 
-/// What a stream read from its source in large pieces, and has not used yet. In clauses it is these
-/// bytes, `unread`, and how many bytes were read in all, `taken`.
+/// A read buffer: the bytes that were read from a source, in large pieces, and not yet used. Contracts
+/// see these bytes, `unread`, and the number of bytes read in total, `taken`.
 #[derive(Drop)]
 pub struct Inbox {
     bytes: [u8; CAPACITY],
@@ -40,7 +40,7 @@ impl Inbox {
     ghost use Rattle.can_stream.specs.Outbox.{Flushes};
     ghost use Rattle.can_stream.specs.Faults.{is_err_by, is_write};
 
-    /// Nothing was read so far.
+    /// Returns an empty buffer, before any read.
     pub fn new() -> Inbox
         ensures { result ≡ record { unread = []; taken = 0 } }
     {
@@ -52,14 +52,14 @@ impl Inbox {
         }
     }
 
-    /// The bytes that were read and not used yet.
+    /// The bytes that were read and not yet used.
     pub fn unread(&self) -> &[u8]
         ensures { result.now ≡ self.now.unread }
     {
         &self.bytes[self.start..self.end]
     }
 
-    /// How many bytes were used.
+    /// The number of bytes that were used.
     pub fn place(&self) -> u64
         requires { length self.now.unread ≤ self.now.taken }
         ensures { result ≡ self.now.taken - length self.now.unread }
@@ -67,7 +67,7 @@ impl Inbox {
         self.taken - self.unread().len() as u64
     }
 
-    /// Uses the first bytes.
+    /// Marks the first `count` bytes as used.
     pub fn consume(&mut self, count: usize)
         requires { count ≤ length self.old.unread }
         ensures { self.new ≡ record self.old { unread = drop count self.old.unread } }
@@ -75,9 +75,11 @@ impl Inbox {
         self.start += count;
     }
 
-    /// Reads once, when all bytes were used, and answers how many bytes came: none only where the source
-    /// ended. `Read` says that the source failed, and `Long` that more than 2^63 bytes had come before
-    /// this call, which then reads nothing.
+    /// Reads once, when all bytes are used, and returns the number of bytes read. It is 0 only if the
+    /// source ended. Errors:
+    ///
+    /// - `Read`: the source failed.
+    /// - `Long`: more than 2^63 bytes had been read before this call, which then reads nothing.
     fn fill<R: Source>(&mut self, source: &mut R) -> Result<usize, TraceFault>
         requires used { self.old.unread ≡ [] }
         requires unfailed { R.has_failed source.old ≡ false }
@@ -111,8 +113,9 @@ impl Inbox {
         }
     }
 
-    /// Gives the sink what waits, so that none of it waits while the source is read, and then reads once
-    /// as `fill` does. `Write` says that the sink failed; nothing is read then.
+    /// Writes all buffered output to the sink, then reads once from the source. So no output is pending
+    /// during a read. The result is that of a read: the number of bytes, or `Read` or `Long`. `Write`
+    /// means that the sink failed; then nothing is read.
     pub fn flush_and_fill<R: Source, W: Sink>(
         &mut self,
         source: &mut R,

@@ -1,16 +1,16 @@
-//! A line that is put together piece by piece.
+//! A line that is built from parts.
 ghost use Rattle.std.specs.Prelude.{◌≡◌, ◌+◌, ◌≤◌, ◌++◌, length, decimal};
 
 use arrayvec::ArrayVec;
 use itoa::Buffer;
 
-/// How many bytes a line has at most: four numbers of 20 digits, and words of 32 bytes.
+/// The maximum number of bytes of a line: four numbers of 20 digits, and words of 32 bytes.
 pub const LINE: usize = 112;
 
-/// A line that is put together.
+/// A line that is being built.
 pub type Line = ArrayVec<u8, LINE>;
 
-/// Appends a number in decimal. It stands within its callers, so that a line's length stays in a register.
+/// Appends a number in decimal. The call is inlined, so that a line's length stays in a register.
 #[inline(always)]
 pub fn push_number(line: &mut Line, number: u64)
     requires { length line.old.items + 20 ≤ LINE }
@@ -31,7 +31,7 @@ pub fn push(line: &mut Line, bytes: &[u8])
     };
 }
 
-/// Appends a word, and a number in decimal behind it.
+/// Appends a word, followed by a number in decimal.
 pub fn push_named(line: &mut Line, name: &[u8], number: u64)
     requires { length line.old.items + length name.now + 20 ≤ LINE }
     ensures text { line.new.items ≡ line.old.items ++ (name.now ++ decimal number) }

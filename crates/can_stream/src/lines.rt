@@ -13,8 +13,8 @@ use crate::source::Source;
 use arrayvec::ArrayVec;
 use memchr::memchr;
 
-/// The lines of a source, one after another. Of each it keeps the first `KEPT` bytes, so that a line
-/// may have any length. In clauses it is these bytes, `line_of`, and what was read and not used yet,
+/// Reads the lines of a source, one after another. It keeps only the first `KEPT` bytes of a line, so lines
+/// may have any length. Contracts see these bytes, `line_of`, and the bytes read and not yet used,
 /// `inbox_of`.
 #[derive(Drop)]
 pub struct LineReader<const KEPT: usize> {
@@ -25,7 +25,7 @@ pub struct LineReader<const KEPT: usize> {
 impl<const KEPT: usize> LineReader<KEPT> {
     ghost use Rattle.can_stream.specs.LineReader.{ReadsLine, inbox_of, is_found, line_of};
 
-    /// Nothing was read so far.
+    /// Returns a reader, before any read.
     pub fn new() -> LineReader<KEPT>
         ensures inbox { inbox_of result ≡ record { unread = []; taken = 0 } }
     {
@@ -35,14 +35,14 @@ impl<const KEPT: usize> LineReader<KEPT> {
         }
     }
 
-    /// The first bytes of the line that was read last.
+    /// The first bytes of the line that was read last, at most `KEPT`.
     pub fn line(&self) -> &[u8]
         ensures { result.now ≡ line_of self.now }
     {
         &self.line
     }
 
-    /// The place in the input of the next line's first byte.
+    /// The place of the next line's first byte in the input.
     pub fn place(&self) -> u64
         requires { length (inbox_of self.now).unread ≤ (inbox_of self.now).taken }
         ensures { result ≡ (inbox_of self.now).taken - length (inbox_of self.now).unread }
@@ -50,10 +50,11 @@ impl<const KEPT: usize> LineReader<KEPT> {
         self.inbox.place()
     }
 
-    /// Reads the next line up to its end. Where the source ends, or an `Err` comes, before the line's
-    /// end, it answers `Ok(false)` or the `Err`, and the line is what came of it, maybe nothing.
+    /// Reads the next line, and returns `Ok(true)` if its end was found. If the source ends or an error
+    /// occurs before that, the result is `Ok(false)` or the error. Then the line has the bytes that were read
+    /// of it, maybe none.
     ///
-    /// Before each read the sink gets what waits; where it fails, `Write` comes.
+    /// All buffered output is written to the sink before each read. If the sink fails, the result is `Write`.
     pub fn next_line<R: Source, W: Sink>(
         &mut self,
         source: &mut R,
@@ -87,7 +88,8 @@ impl<const KEPT: usize> LineReader<KEPT> {
         Ok(true)
     }
 
-    /// Takes the unread bytes into the line, up to the line's end if it is among them. Answers whether it is.
+    /// Takes the unread bytes into the line, before the line's end if it is among them. Returns whether it
+    /// is.
     fn take_line(&mut self) -> bool
         ensures splits { (part : List ℕ) × SplitsLine result self.old.inbox.unread [] part self.new.inbox.unread
             × (self.new.line.items ≡ take KEPT (self.old.line.items ++ part)) }
@@ -117,7 +119,7 @@ fn first_end(bytes: &[u8]) -> Option<usize>
     memchr(b'\n', bytes)
 }
 
-/// Appends those of the bytes that there is room for.
+/// Appends as many of the bytes as fit.
 fn keep_front<const KEPT: usize>(kept: &mut ArrayVec<u8, KEPT>, bytes: &[u8])
     ensures { kept.new.items ≡ take KEPT (kept.old.items ++ bytes.now) }
 {

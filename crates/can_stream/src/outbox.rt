@@ -6,11 +6,12 @@ use crate::fault::TraceFault;
 use crate::sink::Sink;
 use std::marker::Model;
 
-/// How many bytes wait in an [`Outbox`] at most.
+/// The capacity of an [`Outbox`], in bytes.
 pub const OUTBOX_ROOM: usize = 65536;
 
-/// Bytes on their way to a sink, which it is given in large pieces. In clauses it is the list of the
-/// bytes that wait. A sink that failed is not written to again, so what it did not take is dropped.
+/// A write buffer: the bytes for a sink, which are written in large pieces. Contracts see the list of
+/// pending bytes. A sink that failed is not written to again; the bytes that it did not take are
+/// dropped.
 #[derive(Drop)]
 pub struct Outbox {
     bytes: [u8; OUTBOX_ROOM],
@@ -29,7 +30,7 @@ impl Model for Outbox {
 }
 
 impl Outbox {
-    /// Nothing waits.
+    /// Returns an empty buffer.
     pub fn new() -> Outbox
         ensures { result ≡ [] }
     {
@@ -39,8 +40,8 @@ impl Outbox {
         }
     }
 
-    /// Puts bytes behind those that wait. Where room lacks, the sink first gets all that wait; an `Err`
-    /// drops them.
+    /// Appends bytes to the buffer. If they do not fit, all pending bytes are first written to the
+    /// sink. On an `Err` these are dropped.
     pub fn put<W: Sink>(&mut self, sink: &mut W, bytes: &[u8]) -> Result<(), TraceFault>
         requires fits { length bytes.now ≤ OUTBOX_ROOM }
         requires unfailed { W.has_failed sink.old ≡ false }
@@ -57,7 +58,7 @@ impl Outbox {
         Ok(())
     }
 
-    /// Puts bytes behind those that wait, where there is room for them.
+    /// Appends bytes that fit.
     fn extend(&mut self, bytes: &[u8])
         requires { length self.old + length bytes.now ≤ OUTBOX_ROOM }
         ensures { self.new ≡ self.old ++ bytes.now }
@@ -67,7 +68,7 @@ impl Outbox {
         self.length = end;
     }
 
-    /// Gives the sink all that wait. An `Err` drops what it did not take.
+    /// Writes all pending bytes to the sink. On an `Err` the bytes that it did not take are dropped.
     pub fn flush<W: Sink>(&mut self, sink: &mut W) -> Result<(), TraceFault>
         requires { W.has_failed sink.old ≡ false }
         ensures ok { OnOk result (Appends (W.contents sink.old) (W.contents sink.new) self.old) }
@@ -82,7 +83,7 @@ impl Outbox {
     }
 }
 
-/// Gives the sink all the bytes, in as many writes as it needs. The only error is `Write`.
+/// Writes all the bytes to the sink, in several writes if needed. The only error is `Write`.
 pub fn write_all<W: Sink>(sink: &mut W, bytes: &[u8]) -> Result<(), TraceFault>
     requires { W.has_failed sink.old ≡ false }
     ensures ok { OnOk result (Appends (W.contents sink.old) (W.contents sink.new) bytes.now) }

@@ -1,4 +1,4 @@
-//! Readers and writers that give and take in pieces, and stop as they are told: to test streams with.
+//! Readers and writers that work in pieces and stop on request, for tests of streams.
 ghost use Rattle.std.specs.Prelude.{◌≡◌, false, IfOk};
 ghost use Rattle.can_stream.specs.Wrapped.{read_failed, read_ended, write_failed};
 
@@ -11,7 +11,7 @@ use std::io::{Error, ErrorKind, Read, Write};
 /// More bytes than a usual test writes.
 pub const ROOM: usize = 1_000_000;
 
-/// What a reader or a writer answers in the end.
+/// What a reader or a writer returns at its end.
 #[derive(Clone, Copy)]
 pub enum Stop {
     Nothing,
@@ -29,7 +29,7 @@ impl Stop {
     }
 }
 
-/// Gives its text in pieces of at most `size` bytes, and then stops. It counts how often it was asked then.
+/// Returns its text in pieces of at most `size` bytes, then stops. It counts the calls after that.
 #[derive(Drop)]
 pub struct Pieces<'a> {
     pub text: &'a [u8],
@@ -52,8 +52,8 @@ impl Read for Pieces<'_> {
     }
 }
 
-/// Takes at most `size` bytes a write until it has `room` bytes, and then stops. It counts how often it
-/// was asked then.
+/// Takes at most `size` bytes a write until it has `room` bytes, then stops. It counts the calls after
+/// that.
 #[derive(Drop)]
 pub struct Taker {
     pub taken: Vec<u8>,
@@ -80,7 +80,7 @@ impl Write for Taker {
     }
 }
 
-/// A source of these pieces, neither failed nor ended so far.
+/// Returns a source with these pieces, which has neither failed nor ended.
 pub fn reader_of(text: &[u8], size: usize, stop: Stop) -> FromRead<Pieces<'_>>
     ensures unfailed { read_failed result ≡ false }
     ensures unended { read_ended result ≡ false }
@@ -93,7 +93,7 @@ pub fn reader_of(text: &[u8], size: usize, stop: Stop) -> FromRead<Pieces<'_>>
     })
 }
 
-/// A sink that takes these pieces, not failed so far.
+/// Returns a sink that takes these pieces, and has not failed.
 pub fn writer_of(alloc: Global, size: usize, room: usize, stop: Stop) -> ToWrite<Taker>
     ensures { write_failed result ≡ false }
 {

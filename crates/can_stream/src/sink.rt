@@ -6,22 +6,23 @@ ghost use Rattle.can_stream.specs.Told.{is_nothing};
 use std::io;
 use std::io::Write;
 
-/// Where bytes are written to, as std's `Write` tells them, by a writer that keeps whether a write failed.
+/// A writer of bytes, with the contract of std's `Write`, that records whether a write failed.
 pub trait Sink {
-    /// The bytes that the writer holds, where they are known.
+    /// The bytes that the writer contains, if they are known.
     ghost contents: { Self → Option (List ℕ) };
 
-    /// Whether some write has answered an `Err`, or `Ok(0)` to a slice that isn't empty.
+    /// Whether some write has returned an `Err`, or `Ok(0)` for a slice that is not empty.
     ghost has_failed: { Self → Bool };
 
-    /// Writes once, from the front of the slice, and answers how many bytes were taken.
+    /// Writes once, from the front of the slice, and returns the number of bytes taken.
     fn write(&mut self, buf: &[u8]) -> io::Result<usize>
         ensures bound { WritesAtMost result buf.now }
         ensures bytes { WriteAppends (contents self.old) (contents self.new) result buf.now }
         ensures failed { has_failed self.new
             ≡ (has_failed self.old || is_err result || is_nothing result (length buf.now)) };
 
-    /// Whether a write has failed, or has taken no byte of a slice that isn't empty. It stays so.
+    /// Whether some write has failed, or taken no byte of a slice that is not empty. Once true, it stays
+    /// true.
     fn failed(&self) -> bool
         ensures { result ≡ has_failed self.now };
 }
@@ -36,7 +37,7 @@ pub struct ToWrite<W> {
 impl<W> ToWrite<W> {
     ghost use Rattle.can_stream.specs.Wrapped.{wrapped_writer, write_failed};
 
-    /// The writer, not failed so far.
+    /// Wraps the writer, as one that has not failed.
     pub fn new(inner: W) -> ToWrite<W>
         ensures inner { wrapped_writer result ≡ inner }
         ensures unfailed { write_failed result ≡ false }
@@ -47,7 +48,7 @@ impl<W> ToWrite<W> {
         }
     }
 
-    /// The writer, with what it holds.
+    /// Returns the wrapped writer.
     pub fn into_inner(self) -> W
         ensures { result ≡ wrapped_writer self }
     {

@@ -6,29 +6,31 @@ ghost use Rattle.can_stream.specs.Told.{is_nothing};
 use std::io;
 use std::io::Read;
 
-/// Bytes to read, as std's `Read` tells them, from a reader that keeps what its reads came to.
+/// A reader of bytes, with the contract of std's `Read`, that records whether a read failed or
+/// ended.
 pub trait Source {
-    /// The bytes that reads will give from here on, where they are known.
+    /// The bytes that further reads will return, if they are known.
     ghost remaining: { Self → Option (List ℕ) };
 
-    /// Whether some read has answered an `Err`.
+    /// Whether some read has returned an `Err`.
     ghost has_failed: { Self → Bool };
 
-    /// Whether some read of a slice that isn't empty has answered `Ok(0)`.
+    /// Whether some read into a slice that is not empty has returned `Ok(0)`.
     ghost has_ended: { Self → Bool };
 
-    /// Reads once, into the front of the slice, and answers how many bytes came.
+    /// Reads once, into the front of the slice, and returns the number of bytes read.
     fn read(&mut self, buf: &mut [u8]) -> io::Result<usize>
         ensures bound { ReadsAtMost result buf.new }
         ensures bytes { ReadConsumes (remaining self.old) (remaining self.new) result buf.new }
         ensures failed { has_failed self.new ≡ (has_failed self.old || is_err result) }
         ensures ended { has_ended self.new ≡ (has_ended self.old || is_nothing result (length buf.new)) };
 
-    /// Whether a read has failed. It stays so.
+    /// Whether some read has failed. Once true, it stays true.
     fn failed(&self) -> bool
         ensures { result ≡ has_failed self.now };
 
-    /// Whether a read of a slice that isn't empty gave no byte. It stays so.
+    /// Whether some read into a slice that is not empty has returned no byte. Once true, it stays
+    /// true.
     fn ended(&self) -> bool
         ensures { result ≡ has_ended self.now };
 }
@@ -44,7 +46,7 @@ pub struct FromRead<R> {
 impl<R> FromRead<R> {
     ghost use Rattle.can_stream.specs.Wrapped.{wrapped_reader, read_failed, read_ended};
 
-    /// The reader, neither failed nor ended so far.
+    /// Wraps the reader, as one that has neither failed nor ended.
     pub fn new(inner: R) -> FromRead<R>
         ensures inner { wrapped_reader result ≡ inner }
         ensures unfailed { read_failed result ≡ false }
@@ -57,7 +59,7 @@ impl<R> FromRead<R> {
         }
     }
 
-    /// The reader, with what it has left.
+    /// Returns the wrapped reader, with what it has left.
     pub fn into_inner(self) -> R
         ensures { result ≡ wrapped_reader self }
     {

@@ -1,4 +1,4 @@
-//! All that a source tells, in memory.
+//! All bytes of a source, in memory.
 ghost use Rattle.std.specs.Prelude.{◌≡◌, ◌⊎◌, ◌↔◌, ℕ, false, List, IsTrue, IsFalse, IsErrOf, IfErr, IfOk, OnErr, OnOk};
 ghost use Rattle.std.specs.Io.KnownBytes.{Consumes, IsAtEnd};
 
@@ -6,14 +6,15 @@ use crate::fault::TraceFault;
 use crate::source::Source;
 use std::alloc::Global;
 
-/// How many bytes a read gives at most.
+/// The maximum number of bytes that one read returns.
 const PIECE: usize = 8192;
 
-/// Reads all that the source tells, up to its end, and answers these bytes.
+/// Reads all bytes of the source to its end, and returns them.
 ///
-/// `Ok` comes only where the source ended in this call. `Read` says that the source failed; the read that
-/// failed is not tried again. `Memory` says that there is no room for the bytes that came last; no more
-/// is read then.
+/// The result is `Ok` only if the source ended in this call. Errors:
+///
+/// - `Read`: the source failed. The failed read is not repeated.
+/// - `Memory`: no memory is left for the bytes that were read last. No more is read then.
 pub fn read_whole<R: Source>(alloc: Global, r: &mut R) -> Result<Vec<u8>, TraceFault>
     requires unfailed { R.has_failed r.old ≡ false }
     requires unended { R.has_ended r.old ≡ false }
@@ -23,7 +24,7 @@ pub fn read_whole<R: Source>(alloc: Global, r: &mut R) -> Result<Vec<u8>, TraceF
     ensures part { OnErr result ((bytes : List ℕ) × Consumes (R.remaining r.old) (R.remaining r.new) bytes) }
     ensures other { IfErr result (λ fault. (fault ≡ TraceFault.Read) ⊎ (fault ≡ TraceFault.Memory)) }
 
-    // What the source came to.
+    // The state of the source.
     ensures ended { OnOk result (IsTrue (R.has_ended r.new)) }
     ensures at_end { OnOk result (IsAtEnd (R.remaining r.new)) }
     ensures unended { OnErr result (IsFalse (R.has_ended r.new)) }

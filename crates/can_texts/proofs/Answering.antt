@@ -1,4 +1,4 @@
--- The steps of answering lines: a line is read, and its answer goes through the buffer to the writer.
+-- The steps of encoding lines: a line is read, and its output goes through the buffer to the writer.
 use Rattle.std.proofs.Common.{◌≡◌, ℕ, ◌+◌, ◌≤◌, ◌<◌, ◌==◌, Bool, true, false, cond, List, [], ◌∷◌, ◌++◌, length, take, Option, refl, sym, ap, subst, ◌∙◌, append_assoc, arith, eqb-true, eq-eqb}
 use Rattle.std.proofs.lemmas.List.{append-nil, length-append, length-take, length_push, flat_map_more}
 use Rattle.std.proofs.lemmas.Bool.{false≢true}
@@ -23,8 +23,8 @@ use Rattle.can_texts.proofs.TextLemmas.{line_from_front, IsTextFault-front, IsFr
 
 -- `Answer` says what is written for lines.
 module _ (Answer : List (List ℕ) → List ℕ → Type 0) (before after held holds : Option (List ℕ)) where
-  -- Since the call began, an input was read, which is these lines, each with its end, and the unread
-  -- bytes. The answers to the lines are with the writer and in the buffer.
+  -- Since the call began, an input was read: these lines, each with its end, and the unread bytes.
+  -- The output for the lines is with the writer and in the buffer.
   pub record Answering (unread waiting : List ℕ) (taken number : ℕ) : Type 0 where
     pub input : List ℕ
     pub output : List ℕ
@@ -37,7 +37,7 @@ module _ (Answer : List (List ℕ) → List ℕ → Type 0) (before after held h
     pub answer : Answer lines (output ++ waiting)
     pub number_is : number ≡ length lines
 
-  -- The same, and then one more line was read, with its end where that was found.
+  -- This, followed by one more line, with its end if that was found.
   pub record AtLine (found : Bool) (line unread waiting : List ℕ) (taken number : ℕ) : Type 0 where
     pub input : List ℕ
     pub output : List ℕ
@@ -86,7 +86,7 @@ AtLine-read Answer before between after held holds found kept old new waiting nu
       number_is = so_far.number_is;
     }
 
--- what waited behind the answers so far was written
+-- what was pending after the output so far was written
 abbrev pub AtLine-flushed : (Answer : List (List ℕ) → List ℕ → Type 0) (before after held holds holds_now : Option (List ℕ)) (found : Bool) (line unread waiting waiting_now : List ℕ) (taken number : ℕ)
     → AtLine Answer before after held holds found line unread waiting taken number → PassesOn holds holds_now waiting waiting_now []
     → AtLine Answer before after held holds_now found line unread waiting_now taken number
@@ -104,7 +104,7 @@ AtLine-flushed Answer before after held holds holds_now found line unread waitin
   number_is = at.number_is;
 }
 
--- one more line was answered
+-- one more line was encoded
 pub Codes-answered : (lines : List (List ℕ)) (output line waiting waiting_now : List ℕ) (held holds : Option (List ℕ)) → Codes lines (output ++ waiting)
     → (answers : EncodesLine line held holds waiting waiting_now) → Codes (lines ++ line ∷ []) ((output ++ answers.passes.taken) ++ waiting_now)
 Codes-answered lines output line waiting waiting_now held holds codes answers =
@@ -114,7 +114,7 @@ Codes-answered lines output line waiting waiting_now held holds codes answers =
     append_assoc output waiting put ∙ ap (λ t. output ++ t) answers.passes.same ∙ sym (append_assoc output taken waiting_now) in
     subst (Codes (lines ++ line ∷ [])) passed (Codes-push lines (output ++ waiting) line answers.frame codes answers.is_frame answers.text)
 
--- an ended line was answered by what was put
+-- the output for an ended line was appended
 pub Answering-more : (Answer AnswerNow : List (List ℕ) → List ℕ → Type 0) (before after held holds holds_now : Option (List ℕ)) (line unread waiting waiting_now put : List ℕ) (taken number : ℕ)
     → (at : AtLine Answer before after held holds true line unread waiting taken number) → (passes : PassesOn holds holds_now waiting waiting_now put)
     → AnswerNow (at.lines ++ line ∷ []) ((at.output ++ passes.taken) ++ waiting_now) → Answering AnswerNow before after held holds_now unread waiting_now taken (number + 1)

@@ -1,4 +1,4 @@
--- Bytes of a block by masks of where they stand.
+-- Bytes of a block by masks of their places.
 use Rattle.std.proofs.Common.{◌≡◌, ℕ, suc, ◌+◌, ◌^◌, ◌<◌, ◌≤◌, ◌||◌, eqb, cond, Bool, true, false, not, List, [], ◌∷◌, length, map, take, refl, sym, ap, subst, ◌∙◌, arith}
 use Rattle.std.proofs.Math.Nat.{pow-suc}
 use Rattle.std.proofs.lemmas.Bool.{eqb-true, false≢true}
@@ -36,7 +36,7 @@ pub mask-or : (f g : ℕ → Bool) → ((x : ℕ) → f x ≡ true → g x ≡ t
 mask-or f g apart [] = refl
 mask-or f g apart (x ∷ bytes) = omega (arith, bit-or (f x) (g x) (apart x), mask-or f g apart bytes)
 
--- where the mask has all bits, all bytes are meant
+-- if the mask has all bits, all bytes are meant
 mask-all : (f : ℕ → Bool) (bytes : List ℕ) → mask_l (map f bytes) + 1 ≡ 2 ^ length bytes → AllByRecursion (λ x. f x ≡ true) bytes
 mask-all f [] full = tt
 mask-all f (x ∷ bytes) full =
@@ -100,7 +100,7 @@ module _ (bytes : List ℕ) (size : length bytes ≡ 16) where
       apart : (x : ℕ) → (eqb x 48 || eqb x 49) ≡ true → is_skipped x ≡ true → ⊥
       apart x digit skipped = by_digit x (λ y. is_skipped y ≡ true → ⊥) (λ none. false≢true none) (λ none. false≢true none) digit skipped
 
--- how many bytes that are skipped stand before the first other one
+-- how many skipped bytes precede the first other one
 abbrev skipped_len : List ℕ → ℕ
 skipped_len bytes = prefix_len (λ x. not (not (is_skipped x))) bytes
 
@@ -118,7 +118,7 @@ skipped_front (x ∷ bytes) = by (is_skipped x) refl (skipped_front bytes)
     by true is front = subst (λ k. AreSkipped (take k (x ∷ bytes))) (sym next) (AreSkipped-append (x ∷ []) (take n bytes) (skipped_byte x is) front)
     by false is front = (tt, refl)
 
--- by the mask of the others among so many bytes
+-- by the mask of the others among n bytes
 module _ (width : ℕ) (narrow : width ≤ 64) (bytes block : List ℕ) (whole : width ≤ length bytes) (is_block : block ≡ take width bytes) (mask : ℕ) (is : mask ≡ mask_l (map (λ x. not (is_skipped x)) block)) where
   block_size : length block ≡ width
   block_size = ap length is_block ∙ length-take-le width bytes whole

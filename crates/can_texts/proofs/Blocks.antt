@@ -13,7 +13,7 @@ use lib.Lanes.{mask_l}
 abbrev pub is_other : ℕ → Bool
 is_other byte = not (eqb byte 49)
 
--- how many digits of recessive levels stand before the first other byte
+-- how many digits of recessive levels precede the first other byte
 abbrev row_len : List ℕ → ℕ
 row_len bytes = prefix_len (λ byte. not (is_other byte)) bytes
 
@@ -31,12 +31,12 @@ row_is (x ∷ bytes) = by (eqb x 49) refl (row_is bytes)
     by true is row = ap (λ k. take k (x ∷ bytes)) next ∙ ap₂ (λ y ys. y ∷ ys) (eqb-true x 49 is) row ∙ ap (λ k. replicate k 49) (sym next)
     by false is row = refl
 
--- behind a row
+-- after a row
 pub row_longer : (bytes : List ℕ) (count more : ℕ) → take count bytes ≡ replicate count 49 → take more (drop count bytes) ≡ replicate more 49
     → take (count + more) bytes ≡ replicate (count + more) 49
 row_longer bytes count more row behind = take-add count more bytes ∙ ap₂ (λ t u. t ++ u) row behind ∙ replicate-append-replicate count more 49
 
--- in so many bytes, by the mask of the others among them
+-- in n bytes, by the mask of the others among them
 module _ (width : ℕ) (narrow : width ≤ 64) (bytes : List ℕ) (whole : width ≤ length bytes) (mask : ℕ) (is : mask ≡ mask_l (map is_other (take width bytes))) where
   size : length (take width bytes) ≡ width
   size = length-take-le width bytes whole

@@ -18,7 +18,7 @@ use Rattle.can_texts.proofs.CheckSteps.{Checks-answered, Passing}
 use Rattle.can_texts.proofs.VectorFronts.{IsBadLevelByte-front, IsBadLevelByte-kept, IsBadLevelByte-within, IsBadVectorLine-front}
 use Rattle.can_stream.proofs.Turns.{PassesOn-flushed, TakesFront-flushed}
 
--- a front of the answer, and then the rest of it
+-- a prefix of the output, and then the rest of it
 ChecksLines-split : (lines : List (List ℕ)) (output waiting taken left : List ℕ) → waiting ≡ taken ++ left → ChecksLines lines (output ++ waiting) → ChecksLines lines ((output ++ taken) ++ left)
 ChecksLines-split lines output waiting taken left split = subst (ChecksLines lines) (ap (λ t. output ++ t) split ∙ sym (append_assoc output taken left))
 
@@ -69,7 +69,7 @@ module _ {before after held holds : Option (List ℕ)} {line unread waiting : Li
         unbroken = λ place bad. unbroken place (IsBadLevelByte-kept line place bad);
       }
 
-  -- the reader ended behind a line end
+  -- the reader ended after a line end
   pub ChecksEach-at : taken ≤ 2 ^ 63 → line ≡ [] → ChecksEach passed number at.input (at.output ++ waiting)
   ChecksEach-at within none =
       let lines = lines_of-last at ∙ ap (λ l. at.lines ++ open_lines l) none ∙ append-nil at.lines in
@@ -79,7 +79,7 @@ module _ {before after held holds : Option (List ℕ)} {line unread waiting : Li
         count_is = at.number_is ∙ ap length (sym lines);
       }
 
-  -- the reader ended, and the last line was answered
+  -- the reader ended, and the last line was checked
   pub ChecksEach-answered : (holds_now : Option (List ℕ)) (waiting_now : List ℕ) (more : ℕ) → taken ≤ 2 ^ 63 → open_lines line ≡ line ∷ []
       → (judges : Judges (take 193 line) more holds holds_now waiting waiting_now) → ChecksEach (passed + more) (number + 1) at.input ((at.output ++ judges.put.taken) ++ waiting_now)
   ChecksEach-answered holds_now waiting_now more within some judges =
@@ -138,7 +138,7 @@ module _ {R W : Type 0} (remaining : R → Option (List ℕ)) (r_before r : R) (
     });
   }
 
-  -- the line was not answered
+  -- the line was not checked
   pub Told-unanswered : (found ended : Bool) (others more : List (List ℕ)) (w_after : W) (waiting_after : List ℕ) (e : TraceFault) (at : At found)
       → whole_lines ended at.input ≡ at.lines ++ line ∷ others → lines_of at.input ≡ at.lines ++ line ∷ more → start ≡ length (flat_map with_end at.lines)
       → FailsToCheck e (number + 1) start (take 193 line) (contents w) (contents w_after) waiting waiting_after → Ends (Err e) ended w_after waiting_after
@@ -179,7 +179,7 @@ module _ {R W : Type 0} (remaining : R → Option (List ℕ)) (r_before r : R) (
   Told-unanswered found ended others more w_after waiting_after Memory at whole lines start_is fails = absurd fails
 
   module _ (ended : Bool) (at : At false) (within : taken ≤ 2 ^ 63) where
-    -- the reader ended behind a line end
+    -- the reader ended after a line end
     pub Told-done : line ≡ [] → Ends (Ok (passed, number)) ended w waiting
     Told-done none = record {
       input = at.input;
@@ -189,7 +189,7 @@ module _ {R W : Type 0} (remaining : R → Option (List ℕ)) (r_before r : R) (
       related = ChecksEach-at at within none;
     }
 
-    -- the last line was answered
+    -- the last line was checked
     pub Told-answered : (w_after : W) (waiting_after : List ℕ) (more : ℕ) → open_lines line ≡ line ∷ [] → Judges (take 193 line) more (contents w) (contents w_after) waiting waiting_after
         → Ends (Ok (passed + more, number + 1)) ended w_after waiting_after
     Told-answered w_after waiting_after more some judges = record {
@@ -206,7 +206,7 @@ module _ {R W : Type 0} (remaining : R → Option (List ℕ)) (r_before r : R) (
   abbrev Unread : TraceFault → Bool → Type 0
   Unread e ended = Told remaining r_before r contents w_before w_after (λ input output. Comes ChecksEach (Err e) ended input (output ++ waiting_after))
 
-  -- no more is read, where what waits is written before each read
+  -- reading stops, if the pending output is written before each read
   pub Told-unread : (e : TraceFault) (failed ended write_failed : Bool) → ended ≡ false → write_failed ≡ is_write e → start ≡ length (flat_map with_end at.lines)
       → StopsChecking e start (take 193 line) failed taken → Flushes write_failed (contents w) (contents w_after) waiting waiting_after → Unread e ended
   Told-unread e failed ended write_failed unended is start_is stops flushes = by_fault e is stops
@@ -247,7 +247,7 @@ moved : (output waiting taken left rest : List ℕ) → waiting ≡ taken ++ lef
 moved output waiting taken left rest split =
     ap (λ t. (output ++ t) ++ rest) split ∙ ap (λ t. t ++ rest) (sym (append_assoc output taken left)) ∙ append_assoc (output ++ taken) left rest
 
--- however a call ends, a part of what was to be written is a beginning of the answer
+-- however a call ends, a part of what was to be written is a prefix of the output
 pub BeginsChecking-from : (result : Result (ℕ × ℕ) TraceFault) (ended : Bool) (input output waiting taken left : List ℕ) → OnOk result (ended ≡ true) → waiting ≡ taken ++ left
     → Comes ChecksAll result ended input (output ++ waiting) → BeginsChecking ended input (output ++ taken)
 BeginsChecking-from (Ok tally) ended input output waiting taken left is_ended split all = inr (record {
@@ -303,7 +303,7 @@ BeginsChecking-from (Err (BadByte place)) ended input output waiting taken left 
 })
 
 module _ {R W : Type 0} (remaining : R → Option (List ℕ)) (r_before r : R) (contents : W → Option (List ℕ)) (w_before w w_after : W) (waiting : List ℕ) where
-  -- the total went into the buffer behind all answers
+  -- the total went into the buffer after the output for all lines
   pub Told-total : (tally : ℕ × ℕ) (ended : Bool) (waiting_now : List ℕ) → Told remaining r_before r contents w_before w (λ input output. ChecksEach tally.0 tally.1 input (output ++ waiting))
       → PassesOn (contents w) (contents w_after) waiting waiting_now (total_line tally.0 tally.1)
       → Told remaining r_before r contents w_before w_after (λ input output. Comes ChecksAll (Ok tally) ended input (output ++ waiting_now))

@@ -14,11 +14,11 @@ use Rattle.can_texts.specs.declared.lines.vector.Verdict.{Verdict}
 use Rattle.can_texts.proofs.Answering.{AtLine}
 use Rattle.can_texts.proofs.VectorFronts.{IsVectorVerdict-front}
 
--- the answer to lines of which so many pass
+-- the output for lines of which n pass
 abbrev pub Passing : ℕ → List (List ℕ) → List ℕ → Type 0
 Passing passed lines output = Checks lines passed output
 
--- ---- the answer so far
+-- ---- the output so far
 
 pub Checks-none : Checks [] 0 []
 Checks-none = record { verdicts = []; judged = tt; passed_is = refl; output_is = refl }
@@ -43,7 +43,7 @@ Checks-push lines passed output line verdict more checks is more_is = record {
   output_is = ap (λ t. t ++ vector_verdict_line verdict) checks.output_is ∙ flat_map_more vector_verdict_line [] checks.verdicts verdict;
 }
 
--- one more line was answered, of which the first bytes are kept
+-- one more line was checked, of which the first bytes are kept
 pub Checks-answered : (lines : List (List ℕ)) (passed more : ℕ) (output line waiting waiting_now : List ℕ) (held holds : Option (List ℕ)) → Checks lines passed (output ++ waiting)
     → (judges : Judges (take 193 line) more held holds waiting waiting_now) → Checks (lines ++ line ∷ []) (passed + more) ((output ++ judges.put.taken) ++ waiting_now)
 Checks-answered lines passed more output line waiting waiting_now held holds checks judges =
@@ -54,9 +54,9 @@ Checks-answered lines passed more output line waiting waiting_now held holds che
     subst (Checks (lines ++ line ∷ []) (passed + more)) moved
     (Checks-push lines passed (output ++ waiting) line judges.verdict more checks (IsVectorVerdict-front line judges.verdict judges.is_verdict) judges.passed_is)
 
--- ---- where a line begins
+-- ---- the beginning of a line
 
--- the line that was read begins where the bytes that were unread began
+-- the line that was read begins at the first byte that was unread
 pub behind_start : (found : Bool) (before after : Option (List ℕ)) (old new : LineReader 193) (start : ℕ) (reads : ReadsLine found before after 193 old new)
     → start + length old.inbox.unread ≡ old.inbox.taken → start + length (reads.line ++ cond found (10 ∷ new.inbox.unread) []) ≡ new.inbox.taken
 behind_start found before after old new start reads is =
@@ -65,7 +65,7 @@ behind_start found before after old new start reads is =
 pub line_fits : (line rest : List ℕ) (start taken : ℕ) → start + length (line ++ rest) ≡ taken → taken < 2 ^ 64 → start + length (take 193 line) < 2 ^ 64
 line_fits line rest start taken is fits = omega (arith, is, fits, length-append line rest, length-take 193 line)
 
--- that is behind the lines before it
+-- that is after the lines before it
 pub start_is : (found : Bool) (Answer : List (List ℕ) → List ℕ → Type 0) (before after held holds : Option (List ℕ)) (line unread waiting : List ℕ) (taken number start : ℕ)
     → (at : AtLine Answer before after held holds found line unread waiting taken number) → start + length (line ++ cond found (10 ∷ unread) []) ≡ taken
     → start ≡ length (flat_map with_end at.lines)

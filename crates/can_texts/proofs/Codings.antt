@@ -1,4 +1,4 @@
--- The answer to lines.
+-- The output for lines.
 use Rattle.std.proofs.Common.{◌≡◌, ℕ, List, [], ◌∷◌, ◌++◌, map, refl, sym, ap, subst, ◌∙◌, append_assoc}
 use Rattle.std.proofs.lemmas.List.{map_push, flat_map_more}
 use Rattle.std.specs.List.{flat_map, AllByRecursion}
@@ -18,11 +18,11 @@ Codes-push lines output line f codes is_frame text = record {
   coded = ap (λ t. t ++ coded_line f) codes.coded ∙ flat_map_more coded_line [] codes.frames f;
 }
 
--- a front of the answer, and then the rest of it
+-- a prefix of the output, and then the rest of it
 pub Codes-split : (lines : List (List ℕ)) (output waiting taken left : List ℕ) → waiting ≡ taken ++ left → Codes lines (output ++ waiting) → Codes lines ((output ++ taken) ++ left)
 Codes-split lines output waiting taken left split codes = subst (Codes lines) (ap (λ t. output ++ t) split ∙ sym (append_assoc output taken left)) codes
 
--- lines are the texts of one list of frames, where no two frames have one text
+-- lines are the texts of one list of frames, if no two frames have the same text
 module _ (one : (f g : Parts) → IsFrame f → IsFrame g → frame_text f ≡ frame_text g → f ≡ g) where
   frames-only : (fs gs : List Parts) → AllByRecursion IsFrame fs → AllByRecursion IsFrame gs → map frame_text fs ≡ map frame_text gs → fs ≡ gs
   frames-only [] [] h k e = refl

@@ -27,7 +27,7 @@ use Rattle.can_stream.proofs.Turns.{PassesOn-flushed, TakesFront-flushed, same-f
 
 -- ---- the state of a run
 
--- The input is trace text, of which the trace has heard the levels, and the output is the lines of what was told.
+-- The input is trace text, of which the trace has taken the levels, and the output is the lines of its findings.
 pub record HeardSoFar (trace : Trace) (input output : List ℕ) : Type 0 where
   pub is_text : IsTraceText input
   pub told : List Finding
@@ -37,7 +37,7 @@ pub record HeardSoFar (trace : Trace) (input output : List ℕ) : Type 0 where
 lines-append : (told found : List Finding) → flat_map finding_line (told ++ found) ≡ flat_map finding_line told ++ flat_map finding_line found
 lines-append told found = flat_map-append finding_line told found
 
--- what was told is closed
+-- the findings are closed
 closed-same : (told : List Finding) → AllByRecursion (λ finding. is_closed finding ≡ true) told → filter is_closed told ≡ told
 closed-same [] all = refl
 closed-same (finding ∷ told) all = rw all.0 (ap (λ t. finding ∷ t) (closed-same told all.1))
@@ -73,14 +73,14 @@ module _ (trace : Trace) (input output : List ℕ) (so_far : HeardSoFar trace in
         decodes = record { found = so_far.told ++ ends.0; finds = ends.1.finds; lines = so_far.lines ∙ ap (flat_map finding_line) (sym closed) };
       }
 
-  -- a bad byte comes behind it
+  -- a bad byte comes after it
   DecodesToBadByte-here : (place bad : ℕ) (after : List ℕ) → is_trace_byte bad ≡ false → place ≡ length input → DecodesToBadByte place (input ++ bad ∷ after) output
   DecodesToBadByte-here place bad after is_bad place_is = record {
     bad = record { before = input; bad = bad; after = after; text_is = refl; good = so_far.is_text; is_bad = is_bad; place_is = place_is };
     decodes = DecodesSoFar-here.decodes;
   }
 
-  -- the lines of what is told, and no other bytes come
+  -- the lines of the findings, and no other bytes come
   DecodesAll-here : (found : List Finding) → length input ≤ 2 ^ 63 → Finds 0 (levels_in input) (so_far.told ++ found) → DecodesAll input (output ++ flat_map finding_line found)
   DecodesAll-here found within finds = record {
     within = within;
@@ -153,7 +153,7 @@ module _ (trace : Trace) (input output : List ℕ) (so_far : HeardSoFar trace in
           let later = on (text-append good (byte ∷ []) is_text (is_good, tt)) in
           (later.0, subst (λ t. FullAnswer (input ++ t) (output ++ later.0)) (append_assoc good (byte ∷ []) others) later.1)
 
--- the writer took a front of the lines that were told, when other bytes had been read
+-- the writer took a prefix of the lines of the findings, when other bytes had been read
 BeginsDecoding-from : (trace : Trace) (input output taken left others : List ℕ) → HeardSoFar trace input (output ++ (taken ++ left)) → BeginsDecoding (input ++ others) (output ++ taken)
 BeginsDecoding-from trace input output taken left others so_far =
     let later = FullAnswer-later trace input (output ++ (taken ++ left)) so_far [] others tt in
@@ -170,7 +170,7 @@ module _ {R W : Type 0} (remaining : R → Option (List ℕ)) (r_before : R) (co
   abbrev Ends : Result (Unit {0}) TraceFault → R → W → List ℕ → Type 0
   Ends result r w waiting = Told remaining r_before r contents w_before w (λ input output. Decodes result input (output ++ waiting))
 
-  -- so many bytes were read, and heard
+  -- n bytes were read and decoded
   pub record Decoding (r : R) (w : W) (trace : Trace) (waiting : List ℕ) (taken : ℕ) : Type 0 where
     pub heard : Told remaining r_before r contents w_before w (λ input output. HeardSoFar trace input (output ++ waiting))
     pub counted : taken ≡ length heard.input
@@ -278,7 +278,7 @@ module _ {R W : Type 0} (remaining : R → Option (List ℕ)) (r_before : R) (co
       Told-unheard (ScenarioField wrong) start start_is stops = absurd stops
       Told-unheard Memory start start_is stops = absurd stops
 
-    -- the reader ended, and nothing is left to be told
+    -- the reader ended, and no finding is left
     module _ (bytes : List ℕ) (consumes : Consumes (remaining r) (remaining r_now) bytes) (none : bytes ≡ []) where
       all : Told remaining r_before r_now contents w_before w (λ input output. HeardSoFar old input (output ++ waiting))
       all = record {
@@ -322,7 +322,7 @@ module _ {R W : Type 0} (remaining : R → Option (List ℕ)) (r_before : R) (co
               (DecodesAll-here old all.input (all.output ++ waiting) here (finding ∷ []) (fits taken counted within) (ends (levels_in all.input) here.told here.hearing).finds);
         }
 
-      -- or the writer failed before that was told
+      -- or the writer failed before that was written
       pub Told-untold : (w_now : W) → TakesFront (contents w) (contents w_now) waiting → Ends (Err Write) r_now w_now []
       Told-untold w_now front = record {
         input = all.input;
@@ -359,7 +359,7 @@ module _ {R W : Type 0} (remaining : R → Option (List ℕ)) (r_before : R) (co
     counted = d.counted;
   }
 
-  -- no more is read, where what waits is written before each read
+  -- reading stops, if the pending output is written before each read
   pub Told-unread : (r r_now : R) (w w_now : W) (trace : Trace) (waiting waiting_now : List ℕ) (taken : ℕ) (d : Decoding remaining r_before contents w_before r w trace waiting taken)
       → (e : TraceFault) (failed write_failed : Bool) (taken_now : ℕ) (bytes : List ℕ) → Consumes (remaining r) (remaining r_now) bytes → bytes ≡ [] → taken_now ≡ length d.heard.input
       → write_failed ≡ is_write e → StopsTurn e failed taken_now → Flushes write_failed (contents w) (contents w_now) waiting waiting_now → Ends remaining r_before contents w_before (Err e) r_now w_now waiting_now
@@ -382,7 +382,7 @@ BeginsDecoding-moved input output waiting taken left split begins = record {
   answer = subst (FullAnswer input) (ap (λ t. t ++ begins.rest) (moved output waiting taken left split) ∙ append_assoc (output ++ taken) left begins.rest) begins.answer;
 }
 
--- however a call ends, a part of what was to be written is a beginning of the answer
+-- however a call ends, a part of what was to be written is a prefix of the output
 pub BeginsDecoding-within : (result : Result (Unit {0}) TraceFault) (input output waiting taken left : List ℕ) → waiting ≡ taken ++ left → Decodes result input (output ++ waiting) → BeginsDecoding input (output ++ taken)
 BeginsDecoding-within (Ok u) input output waiting taken left split all = record { rest = left; answer = FullAnswer.to_end (subst (DecodesAll input) (moved output waiting taken left split) all) }
 BeginsDecoding-within (Err (BadByte place)) input output waiting taken left split bad =

@@ -30,7 +30,7 @@ PassesOn-then held between holds old mid new put more first second = record {
       ∙ sym (append_assoc first.taken second.taken new);
 }
 
--- the writer fails behind that
+-- the writer fails after that
 pub TakesFront-then : (held between holds : Option (List ℕ)) (old mid put more : List ℕ) → PassesOn held between old mid put → TakesFront between holds (mid ++ more)
     → TakesFront held holds (old ++ (put ++ more))
 TakesFront-then held between holds old mid put more first front = record {
@@ -81,7 +81,7 @@ IsTraceText-digits [] = tt
 IsTraceText-digits (Dominant ∷ levels) = (refl, IsTraceText-digits levels)
 IsTraceText-digits (Recessive ∷ levels) = (refl, IsTraceText-digits levels)
 
--- levels of which nothing is told, one part behind the other
+-- levels without findings, one part after the other
 pub Untold-then : (a b c : Trace) (bytes : List ℕ) (n k : ℕ) → IsTraceText (take n bytes) → Hears a b (levels_in (take n bytes)) []
     → IsTraceText (take k (drop n bytes)) → Hears b c (levels_in (take k (drop n bytes))) [] → IsTraceText (take (n + k) bytes) × Hears a c (levels_in (take (n + k) bytes)) []
 Untold-then a b c bytes n k text hears more_text more_hears =
@@ -95,7 +95,7 @@ Untold-then a b c bytes n k text hears more_text more_hears =
 pub HearsText-none : (trace : Trace) (held : Option (List ℕ)) (waiting : List ℕ) → HearsText trace trace [] held held waiting waiting
 HearsText-none trace held waiting = record { found = []; is_text = tt; hears = Hears-none trace; passes = PassesOn-none held waiting }
 
--- levels of which nothing is told
+-- levels without findings
 pub HearsText-untold : (old new : Trace) (text : List ℕ) (held : Option (List ℕ)) (waiting : List ℕ) → IsTraceText text → Hears old new (levels_in text) [] → HearsText old new text held held waiting waiting
 HearsText-untold old new text held waiting is_text hears = record { found = []; is_text = is_text; hears = hears; passes = PassesOn-none held waiting }
 
@@ -143,7 +143,7 @@ module _ (a b c : Trace) (text more : List ℕ) (held between holds : Option (Li
     hears = HearsText-then a b c text meets.text held between holds old mid new first meets.hears;
   }
 
-  -- it stops behind trace text
+  -- it stops after trace text
   pub StopsHearing-then : (e : TraceFault) (start : ℕ) → StopsHearing e b c (start + length text) more between holds mid new → StopsHearing e a c start (text ++ (more ++ rest)) held holds old new
   StopsHearing-then Write start stops = (FailsToTell-then stops.0, stops.1)
   StopsHearing-then (BadByte place) start stops = MeetsBadByte-then start place stops
@@ -186,7 +186,7 @@ MeetsBadByte-here trace place byte rest held waiting is_bad = record {
 -- ---- bytes of a list, one after another
 
 module _ (a b c : Trace) (bytes : List ℕ) (index : ℕ) (held between : Option (List ℕ)) (old mid : List ℕ) (first : HearsText a b (take index bytes) held between old mid) where
-  -- some of which nothing is told
+  -- some without findings
   pub HearsText-untold_part : (count : ℕ) → IsTraceText (take count (drop index bytes)) → Hears b c (levels_in (take count (drop index bytes))) []
       → HearsText a c (take (index + count) bytes) held between old mid
   HearsText-untold_part count is_text hears =

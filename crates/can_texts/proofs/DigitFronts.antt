@@ -16,7 +16,7 @@ IsCommonFront-levels levels own digits driven n digits_are driven_are is = recor
       (ap (take m) digits_are ∙ take-map digit_of m levels ∙ ap (map digit_of) same ∙ sym (take-map digit_of m own) ∙ ap (take m) (sym driven_are));
 }
 
--- levels whose digits stand before a place, and one more
+-- levels whose digits precede a place, and one more
 pub record HasLevels (digits : List ℕ) (place : ℕ) : Type 0 where
   pub levels : List Level
   pub so_far : map digit_of levels ≡ take place digits

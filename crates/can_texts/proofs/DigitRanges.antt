@@ -1,4 +1,4 @@
--- A part of a buffer between two places, and that part with a byte behind it.
+-- A part of a buffer between two places, and that part followed by a byte.
 use Rattle.std.proofs.Common.{◌≡◌, ℕ, ◌+◌, ◌-◌, ◌<◌, ◌≤◌, List, [], ◌∷◌, ◌++◌, length, take, drop, set, sym, ap, ◌∙◌, arith}
 use Rattle.std.specs.Prelude.{slice_range}
 use Rattle.std.proofs.lemmas.List.{drop-append-le, length-take, length-take-le, take_more_set}

@@ -54,14 +54,14 @@ module _ {before after held holds : Option (List ℕ)} {line unread waiting : Li
   pub EncodesTooLong-at : 2 ^ 63 < taken → EncodesTooLong at.input (at.output ++ waiting)
   EncodesTooLong-at long = record { long = omega (arith, at.counted, long); codes = EncodesEnded-at }
 
-  -- the reader ended behind a line end
+  -- the reader ended after a line end
   pub EncodesAll-at : taken ≤ 2 ^ 63 → line ≡ [] → EncodesAll at.input (at.output ++ waiting)
   EncodesAll-at within none = record {
     within = omega (arith, at.counted, within);
     codes = subst (λ ls. Codes ls (at.output ++ waiting)) (sym (lines_of-last at ∙ ap (λ l. at.lines ++ open_lines l) none ∙ append-nil at.lines)) at.answer;
   }
 
-  -- the reader ended, and the last line was answered
+  -- the reader ended, and the last line was encoded
   pub EncodesAll-answered : (holds_now : Option (List ℕ)) (waiting_now : List ℕ) → taken ≤ 2 ^ 63 → open_lines line ≡ line ∷ []
       → (answers : EncodesLine line holds holds_now waiting waiting_now) → EncodesAll at.input ((at.output ++ answers.passes.taken) ++ waiting_now)
   EncodesAll-answered holds_now waiting_now within some answers = record {
@@ -99,7 +99,7 @@ module _ {R W : Type 0} (remaining : R → Option (List ℕ)) (r_before r : R) (
       by_fault (ScenarioField wrong) stops = absurd stops
       by_fault Memory stops = absurd stops
 
-  -- the line was not answered
+  -- the line was not encoded
   pub Told-unanswered : (found ended : Bool) (others : List (List ℕ)) (w_after : W) (waiting_after : List ℕ) (e : TraceFault) (at : At found)
       → whole_lines ended at.input ≡ at.lines ++ line ∷ others → FailsToAnswer e (number + 1) line (contents w) (contents w_after) waiting waiting_after
       → Ends (Err e) ended w_after waiting_after
@@ -126,7 +126,7 @@ module _ {R W : Type 0} (remaining : R → Option (List ℕ)) (r_before r : R) (
   Told-unanswered found ended others w_after waiting_after Memory at whole fails = absurd fails
 
   module _ (ended : Bool) (at : At false) (within : taken ≤ 2 ^ 63) where
-    -- the reader ended behind a line end
+    -- the reader ended after a line end
     pub Told-done : line ≡ [] → Ends (Ok tt) ended w waiting
     Told-done none = record {
       input = at.input;
@@ -136,7 +136,7 @@ module _ {R W : Type 0} (remaining : R → Option (List ℕ)) (r_before r : R) (
       related = EncodesAll-at at within none;
     }
 
-    -- the last line was answered
+    -- the last line was encoded
     pub Told-answered : (w_after : W) (waiting_after : List ℕ) → open_lines line ≡ line ∷ [] → EncodesLine line (contents w) (contents w_after) waiting waiting_after
         → Ends (Ok tt) ended w_after waiting_after
     Told-answered w_after waiting_after some answers = record {
@@ -168,7 +168,7 @@ module _ {R W : Type 0} (remaining : R → Option (List ℕ)) (r_before r : R) (
     };
   }
 
-  -- no more is read, where what waits is written before each read
+  -- reading stops, if the pending output is written before each read
   pub Told-unread : (e : TraceFault) (failed ended write_failed : Bool) → ended ≡ false → write_failed ≡ is_write e → StopsTurn e failed taken
       → Flushes write_failed (contents w) (contents w_after) waiting waiting_after → Unread e ended
   Told-unread e failed ended write_failed unended is (inl stops) flushes =
@@ -180,7 +180,7 @@ module _ {R W : Type 0} (remaining : R → Option (List ℕ)) (r_before r : R) (
 
 -- ---- and after it
 
--- however a call ends, a part of what was to be written is a beginning of the answer
+-- however a call ends, a part of what was to be written is a prefix of the output
 pub BeginsEncoding-from : (result : Result (Unit {0}) TraceFault) (ended : Bool) (input output waiting taken left : List ℕ) → OnOk result (ended ≡ true) → waiting ≡ taken ++ left
     → Encodes result ended input (output ++ waiting) → BeginsEncoding ended input (output ++ taken)
 BeginsEncoding-from (Ok u) ended input output waiting taken left is_ended split all = record {

@@ -42,7 +42,7 @@ same_length (x ∷ a) b (y ∷ c) d same size =
 
 -- ---- the search for eleven recessive levels
 
--- one search doesn't go on where another has ended
+-- one search does not go on if another has ended
 no_longer : (s t r q more : List Level) → SkipsToIdle s r → SkipsToIdle t q → t ≡ s ++ more → r ≡ more ++ q → more ≡ []
 no_longer s t r q [] first second longer rest = refl
 no_longer s t r q (x ∷ more) first second longer rest =
@@ -109,7 +109,7 @@ at_dominant place levels found finds = by_levels place (Dominant ∷ levels) fou
 
 -- ---- all that is found
 
--- a fault stands behind the start of frame
+-- a fault comes after the start of frame
 fault_behind : (rest front : List Level) (kind : CodeFaultKind) → IsCodeFault (Dominant ∷ rest) (record { kind = kind; place = length front }) → 0 < length front
 fault_behind rest front kind fault = elim (frame_or_fault rest) [
   | inl begun ↦ absurd (fault.unspelled begun.h begun.w begun.rest begun.spells (sym begun.whole))
@@ -122,7 +122,7 @@ module _ (place : ℕ) (behind : List Level) where
   abbrev levels : List Level
   levels = Dominant ∷ behind
 
-  -- no frame is spelled where a fault is
+  -- levels with a fault begin with no frame
   not_both : (h : HeardParts) (fault : CodeFault) (w rest : List Level) → Spells h w → levels ≡ w ++ rest → IsCodeFault levels fault → ⊥
   not_both h fault w rest spells whole is_fault = is_fault.unspelled h w rest spells (sym whole)
 

@@ -15,7 +15,7 @@ use Rattle.can_texts.specs.declared.traces.trace.State.TheVariants.{Idle, InFram
 use Rattle.can_code.proofs.FrameOrFault.{frame_or_fault, HasFault}
 use Rattle.can_texts.proofs.IdleRows.{row, row-more, SkipsToIdle-dominant, SkipsToIdle-eleven, SkipsToIdle-few}
 
--- where the search for eleven recessive levels ends, in a row of which so many have been heard
+-- the end of the search for eleven recessive levels, in a row of which n have been taken
 record Skips (n : ℕ) (levels : List Level) : Type 0 where
   skipped : List Level
   rest : List Level
@@ -76,7 +76,7 @@ Finds-exist (suc n) place (Dominant ∷ levels) within = elim (frame_or_fault le
         let later = on (place + length (front ++ search.skipped)) search.rest shorter in
         (Fault place has.kind (place + length front) ∷ later.0, Finds.fault place levels front search.skipped search.rest has.kind later.0 all has.fault search.skips later.1)
 
--- whatever levels come, something is found in them behind what was told
+-- whatever levels come, they have findings after those so far
 pub Hearing-goes_on : (trace : Trace) (levels : List Level) (told : List Finding) → Hearing trace levels told → (more : List Level) → (found : List Finding) × Finds 0 (levels ++ more) (told ++ found)
 Hearing-goes_on trace levels told hearing more = by_state trace.state hearing.stands
   where

@@ -178,7 +178,7 @@ module _ (byte : ℕ) where
       by false true is48 is49 = absurd (none Recessive (sym (eqb-true byte 49 is49)))
       by false false is48 is49 = refl
 
-  -- it may not stand in trace text, unless it is skipped
+  -- it is not allowed in trace text, unless it is skipped
   pub no_trace_byte : levels_of_byte byte ≡ [] → is_skipped byte ≡ false → is_trace_byte byte ≡ false
   no_trace_byte none unskipped = by (eqb byte 48) (eqb byte 49) none
     where
@@ -187,7 +187,7 @@ module _ (byte : ℕ) where
       by false true none = cc
       by false false none = unskipped
 
--- digits that are heard up to one that is none are all heard
+-- digits that are decoded before one byte that is not a digit are all decoded
 pub all_digits_heard : (digits : List ℕ) (n : ℕ) → AreDigits digits → n ≤ length digits → (n < length digits → levels_of_byte (get_or digits n 0) ≡ []) → n ≡ length digits
 all_digits_heard digits n are within stops = omega (arith, within, not_before)
   where
@@ -198,7 +198,7 @@ all_digits_heard digits n are within stops = omega (arith, within, not_before)
         let no : [] ≡ digit.0 ∷ [] = sym (stops before) ∙ some in
         cc
 
--- a level at which something is told, where the writer fails
+-- a level with a finding, if the writer fails
 pub FailsToHear-found : (old new : Trace) (level : Level) (held holds : Option (List ℕ)) (waiting waiting_now : List ℕ) (finding : Finding) (e : TraceFault) → Hears old new (level ∷ []) (finding ∷ [])
     → TakesFront held holds waiting → waiting_now ≡ [] → e ≡ Write → FailsToHear e old new (digit_of level ∷ []) held holds waiting waiting_now
 FailsToHear-found old new level held holds waiting waiting_now finding e hears front none is_write = (
@@ -217,7 +217,7 @@ FailsToHear-found old new level held holds waiting waiting_now finding e hears f
 
 -- ---- bytes of a list, one part after another
 
--- bytes behind the first ones were not all heard
+-- bytes after the first ones were not all decoded
 module _ (a b c : Trace) (bytes : List ℕ) (index : ℕ) (held between holds : Option (List ℕ)) (old mid new : List ℕ) (first : HearsText a b (take index bytes) held between old mid) where
   pub FailsToHear-behind : (e : TraceFault) → FailsToHear e b c (drop index bytes) between holds mid new → FailsToHear e a c bytes held holds old new
   FailsToHear-behind e fails =

@@ -4,7 +4,7 @@ use Rattle.can_frame.specs.declared.level.Level.{Level}
 use Rattle.can_frame.specs.declared.level.Level.TheVariants.{Dominant, Recessive}
 use Rattle.can_texts.specs.Decoded.{EndsIdle, SkipsToIdle}
 
--- so many recessive levels
+-- n recessive levels
 abbrev pub row : ℕ → List Level
 row n = replicate n Recessive
 
@@ -19,13 +19,13 @@ row-suc (suc n) = ap (λ l. Recessive ∷ l) (row-suc n)
 pub row-more : (n : ℕ) → row n ++ Recessive ∷ [] ≡ row (n + 1)
 row-more n = row-suc n ∙ ap row (sym (add-one n))
 
--- a row with a dominant level behind it is no longer one
+-- a row followed by a dominant level is no longer one
 row-ended : (n k : ℕ) (s m : List Level) → n < k → row n ++ Dominant ∷ s ≡ row k ++ m → ⊥
 row-ended n zero s m less same = absurd (omega arith)
 row-ended zero (suc k) s m less same = cc
 row-ended (suc n) (suc k) s m less same = let others : row n ++ Dominant ∷ s ≡ row k ++ m = cc in row-ended n k s m (omega arith) others
 
--- eleven recessive levels that stand behind a shorter row and a dominant level stand in what follows these
+-- eleven recessive levels that follow a shorter row and a dominant level are in what follows these
 past_dominant : (n : ℕ) (f s m : List Level) → n < 11 → row n ++ Dominant ∷ s ≡ f ++ (row 11 ++ m) → (front : List Level) × (s ≡ front ++ (row 11 ++ m))
 past_dominant zero [] s m few same = cc
 past_dominant zero (x ∷ f) s m few same = (f, cc)
@@ -36,7 +36,7 @@ past_dominant (suc n) (x ∷ f) s m few same = past_dominant n f s m (omega arit
 pub not_idle : (levels : List Level) → length levels < 11 → ¬ EndsIdle levels
 not_idle levels few idle = absurd (omega (arith, few, ap length idle.1, length-append idle.0 (row 11)))
 
--- the search goes on behind a dominant level as if it began there
+-- after a dominant level the search goes on as if it began there
 pub SkipsToIdle-dominant : (n : ℕ) (skipped rest : List Level) → n < 11 → SkipsToIdle skipped rest → SkipsToIdle ((row n ++ Dominant ∷ []) ++ skipped) rest
 SkipsToIdle-dominant n skipped rest few skips =
     let begun = row n ++ Dominant ∷ [] in
@@ -59,7 +59,7 @@ SkipsToIdle-eleven rest = record {
     shorter front [] whole some = absurd (some refl)
     shorter front (x ∷ more) whole some = omega (arith, ap length whole, length-append front (x ∷ more))
 
--- fewer are all skipped where nothing follows them
+-- fewer are all skipped if nothing follows them
 pub SkipsToIdle-few : (n : ℕ) → n < 11 → SkipsToIdle (row n) []
 SkipsToIdle-few n few = record {
   idle = λ some. absurd (some refl);

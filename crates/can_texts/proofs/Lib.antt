@@ -1,7 +1,8 @@
 -- For crates above: the steps of a run over lines
 pub mod Answering
 -- For this crate.
--- lines of frames: why 33 bytes of a line tell its fault, what is written for lines, the ends of a run
+-- lines of frames: why 33 bytes of a line determine its fault, what is written for lines, the ends of
+-- a run
 pub mod TextLemmas
 pub mod Codings
 pub mod Endings
@@ -11,7 +12,7 @@ pub mod DigitLemmas
 pub mod DigitRanges
 pub mod DigitFronts
 pub mod VectorLemmas
--- why 193 bytes of it tell all
+-- why 193 bytes of it are enough
 pub mod VectorFronts
 -- what is written for its verdict, and that it has one
 pub mod VerdictLines
@@ -34,7 +35,7 @@ pub mod TraceSteps
 -- the steps and the ends of a run
 pub mod DecodeSteps
 pub mod DecodeEndings
--- that in all levels one list is found, and each input has one full answer
+-- that all levels have one list of findings, and each input has one full output
 pub mod FindsTotal
 pub mod FindsOne
 pub mod OneDecoding

@@ -1,5 +1,5 @@
--- The mark that follows a frame's text in a line: no frame's text has a byte of it but the blank, so the
--- first mark of the line stands behind the text.
+-- The mark that follows a frame's text in a line: no frame's text has a byte of it but the space, so the
+-- first mark of the line follows the text.
 use Rattle.std.proofs.Common.{◌≡◌, ◌≢◌, ℕ, zero, suc, ◌<◌, ◌≤◌, ◌==◌, ◌⊎◌, inl, inr, Bool, true, false, cond, codes, List, [], ◌∷◌, ◌++◌, length, get_or, take, drop, refl, sym, ap, subst, ◌∙◌, arith, ne_eqb}
 use Rattle.std.proofs.lemmas.Bool.{cases_lt, cases_order, false≢true}
 use Rattle.std.proofs.lemmas.List.{append_cancel_left, length-append, take_at}
@@ -87,7 +87,7 @@ IsFramePart-marked line f others marked = record {
       (unmarked (frame_text f) others (NoEquals-frame_text f marked.is_frame));
 }
 
--- the mark behind the frame part
+-- the mark after the frame part
 pub mark_behind : (line a : List ℕ) (part : IsFramePart line a) → length a < length line → take 3 (drop (length a) line) ≡ mark
 mark_behind line a part more = ap (λ l. take 3 (drop (length a) l)) part.line_is ∙ ap (take 3) (drop-append_seam a part.rest) ∙ there part.marked
   where

@@ -1,4 +1,4 @@
--- Lines of vectors have one answer.
+-- Lines of vectors have one output.
 use Rattle.std.proofs.Common.{◌≡◌, ℕ, inl, inr, List, [], ◌∷◌, map, refl, sym, ap, subst, ◌∙◌}
 use Rattle.std.proofs.lemmas.Bool.{cases_order}
 use Rattle.std.specs.List.{flat_map}
@@ -27,7 +27,7 @@ Compares-only xs ys Agrees (DiffersAt n) h k = absurd (k.0 h)
 Compares-only xs ys (DiffersAt m) Agrees h k = absurd (h.0 k)
 Compares-only xs ys (DiffersAt m) (DiffersAt n) h k = ap DiffersAt (IsCommonFront-only xs ys m n h.1 k.1)
 
--- where no two frames have one text
+-- if no two frames have the same text
 module _ (one : (f g : Parts) → IsFrame f → IsFrame g → frame_text f ≡ frame_text g → f ≡ g) where
   pub IsVectorVerdict-only : (line : List ℕ) (v w : Verdict) → IsVectorVerdict line v → IsVectorVerdict line w → v ≡ w
   IsVectorVerdict-only line v w h k =

@@ -1,4 +1,4 @@
--- How the search behind a fault goes on, digit by digit.
+-- How the search after a fault goes on, digit by digit.
 use Rattle.std.proofs.Common.{◌≡◌, ℕ, ◌+◌, ◌<◌, List, [], ◌∷◌, ◌++◌, true, length, get_or, take, refl, sym, ap, subst, ◌∙◌, append_assoc, arith, length-append}
 use Rattle.std.proofs.lemmas.List.{append-nil, take_more}
 use Rattle.can_frame.specs.declared.level.Level.{Level}
@@ -12,7 +12,7 @@ use Rattle.can_texts.proofs.IdleRows.{row}
 use Rattle.can_texts.proofs.TraceSteps.{IsLost-dominant, IsLost-recessive, SearchesOn-more}
 use Rattle.can_texts.proofs.DecodeSteps.{IsTraceText-digits, levels_in-append, levels_in-digits}
 
--- how long a row is behind a level
+-- the length of a row after a level
 abbrev RowBehind : ℕ → Level → ℕ → Type 0
 RowBehind n Dominant m = m ≡ 0
 RowBehind n Recessive m = m ≡ n + 1

@@ -1,4 +1,4 @@
--- Blanks and line ends, one behind the other: trace text without levels.
+-- Spaces and line ends, one after the other: trace text without levels.
 use Rattle.std.proofs.Common.{◌≡◌, ℕ, suc, ◌+◌, ◌<◌, ◌||◌, eqb, Bool, true, false, List, [], ◌∷◌, ◌++◌, length, take, drop, get_or, Option, refl, sym, ap, ap₂, subst, ◌∙◌, arith}
 use Rattle.std.proofs.Math.Seq.{take-add}
 use Rattle.std.proofs.lemmas.Bool.{eqb-true, false≢true}
@@ -22,7 +22,7 @@ skipped_byte byte is = by (eqb byte 32) (eqb byte 10) (eqb byte 13) refl refl re
     by false false true is32 is10 is13 any = at 13 ((refl, tt), refl) is13
     by false false false is32 is10 is13 none = absurd (false≢true none)
 
--- one part behind the other
+-- one part after the other
 pub AreSkipped-append : (xs ys : List ℕ) → AreSkipped xs → AreSkipped ys → AreSkipped (xs ++ ys)
 AreSkipped-append xs ys first more =
     (AllByRecursion-append (λ byte. is_trace_byte byte ≡ true) xs ys first.0 more.0, levels_in-append xs ys ∙ ap₂ (λ l m. l ++ m) first.1 more.1)
@@ -35,7 +35,7 @@ pub AreSkipped-more : (bytes : List ℕ) (n : ℕ) → n < length bytes → AreS
 AreSkipped-more bytes n within first is =
     subst AreSkipped (sym (take_more bytes n 0 within)) (AreSkipped-append (take n bytes) (get_or bytes n 0 ∷ []) first (skipped_byte (get_or bytes n 0) is))
 
--- one byte, and those behind it
+-- one byte, and those after it
 pub AreSkipped-next : (bytes : List ℕ) (index k : ℕ) → index < length bytes → is_skipped (get_or bytes index 0) ≡ true → AreSkipped (take k (drop (index + 1) bytes)) → AreSkipped (take (1 + k) (drop index bytes))
 AreSkipped-next bytes index k within is more =
     let x = get_or bytes index 0 in

@@ -1,5 +1,5 @@
--- A frame's text has at most 32 bytes, so the first 33 bytes of a line tell whether it is one, and which
--- fault it has otherwise.
+-- A frame's text has at most 32 bytes, so the first 33 bytes of a line determine whether it is one, and
+-- otherwise its fault.
 use Rattle.std.proofs.Common.{◌≡◌, ℕ, ◌≤◌, ◌↔◌, List, length, take, sym, ap, subst, ◌∙◌, arith}
 use Rattle.std.proofs.lemmas.List.{length-append, length-take, take_all, take-take}
 use Rattle.can_frame.specs.Parts.{Parts, IsFrame}

@@ -21,7 +21,7 @@ use Rattle.can_texts.specs.declared.traces.finding.Finding.{Finding}
 use Rattle.can_texts.specs.declared.traces.finding.Finding.TheVariants.{Frame, Fault}
 use Rattle.can_texts.proofs.IdleRows.{row, length-row, row-more, SkipsToIdle-dominant, SkipsToIdle-eleven, SkipsToIdle-few}
 
--- the place behind levels
+-- the place after levels
 behind : (done more rest : List Level) (found : List Finding) → Finds (length (done ++ more)) rest found → Finds (length done + length more) rest found
 behind done more rest found = subst (λ p. Finds p rest found) (length-append done more)
 
@@ -65,7 +65,7 @@ SearchesOn-fault done others level told kind on is_fault more skipped rest found
 pub SearchesOn-more : (begun done : List Level) (level : Level) (told : List Finding) → SearchesOn begun done told → SearchesOn (begun ++ level ∷ []) done told
 SearchesOn-more begun done level told on more skipped rest found split = on (level ∷ more) skipped rest found (sym (append_assoc begun (level ∷ []) more) ∙ split)
 
--- a dominant level, behind which the search begins anew
+-- a dominant level, after which the search begins again
 pub SearchesOn-dominant : (n : ℕ) (done : List Level) (told : List Finding) → n < 11 → SearchesOn (row n ++ Dominant ∷ []) done told
     → SearchesOn [] (done ++ (row n ++ Dominant ∷ [])) told
 SearchesOn-dominant n done told few on more skipped rest found split skips finds =
@@ -94,7 +94,7 @@ GoesOn-short done others told on short =
     on front (Fault (length done) Short (length done + length front) ∷ [])
     (Finds.fault (length done) others front [] [] Short [] (sym (append-nil front)) short skips (Finds.over _))
 
--- where a level shows the fault, it is no end of the levels
+-- if a level shows the fault, it is no end of the levels
 pub fault_closed : (place : ℕ) (kind : CodeFaultKind) (front rest : List Level) (level : Level) (fault_place : ℕ) → IsCodeFault (front ++ level ∷ rest) (record { kind = kind; place = length front })
     → is_closed (Fault place kind fault_place) ≡ true
 fault_closed place Short front rest level fault_place fault = absurd (omega (arith, fault.kind, length-append front (level ∷ rest)))
@@ -103,7 +103,7 @@ fault_closed place Stuff front rest level fault_place fault = refl
 fault_closed place Crc front rest level fault_place fault = refl
 fault_closed place Form front rest level fault_place fault = refl
 
--- ---- where a trace stands
+-- ---- the state of a trace
 
 -- in the search, by the level that comes next
 module _ (n : ℕ) (level : Level) (done : List Level) (told : List Finding) (few : n < 11) where
@@ -140,7 +140,7 @@ module _ (n : ℕ) (level : Level) (done : List Level) (told : List Finding) (fe
       let same : row n ++ level ∷ [] ≡ row 11 = row-with is ∙ ap row eleven in
       subst (λ l. GoesOn (done ++ l) told) (sym same) (GoesOn-eleven done told (subst (λ l. SearchesOn l done told) same on))
 
--- a trace that stands so now
+-- a trace in this state now
 Hearing-now : (old new : Trace) (levels more : List Level) (told found : List Finding) → Hearing old levels told → new.place ≡ old.place + length more
     → Stands new.state (levels ++ more) (told ++ found) → AllByRecursion (λ finding. is_closed finding ≡ true) found → Hearing new (levels ++ more) (told ++ found)
 Hearing-now old new levels more told found hearing place stands closed = record {
@@ -176,7 +176,7 @@ module _ (old new : Trace) (levels : List Level) (told : List Finding) (hearing 
       } in
       Hearing-now old new levels more told [] hearing place (none_more new.state (levels ++ more) told (subst (λ s. Stands s (levels ++ more) told) (sym now) still)) tt
 
-  -- levels behind a fault
+  -- levels after a fault
   pub Hearing-search : (more : List Level) → new.place ≡ old.place + length more → (n m : ℕ) → old.state ≡ Lost n → new.state ≡ Lost m
       → (IsLost n levels told → IsLost m (levels ++ more) told) → Hearing new (levels ++ more) (told ++ [])
   Hearing-search more place n m was now goes_on =
@@ -250,7 +250,7 @@ module _ (old new : Trace) (levels : List Level) (told : List Finding) (hearing 
           let stands : Stands new.state (levels ++ level ∷ []) found = subst (λ l. Stands new.state l found) (append_assoc done front (level ∷ []) ∙ sym all_are) (searched (done ++ front) found on_here) in
           Hearing-now old new levels (level ∷ []) told (Fault start kind old.place ∷ []) hearing place stands (fault_closed start kind front [] level old.place (at_fault []), tt)
 
--- ---- where the levels are over
+-- ---- the end of the levels
 
 module _ (trace : Trace) (levels : List Level) (told : List Finding) (hearing : Hearing trace levels told) where
   pub EndsWith-in_frame : (start : ℕ) (decoder : DecoderParts) → trace.state ≡ InFrame start decoder → EndsWith levels told (Fault start Short trace.place ∷ [])

@@ -1,5 +1,5 @@
 -- A frame text has at most 32 bytes, a mark three, and a line at most 157 levels, so the first 193 bytes
--- of a line tell all that is asked of it.
+-- of a line are enough for its verdict and faults.
 use Rattle.std.proofs.Common.{◌≡◌, ◌≢◌, ℕ, zero, suc, ◌+◌, ◌-◌, ◌<◌, ◌≤◌, ◌⊎◌, inl, inr, Bool, true, false, List, [], ◌∷◌, ◌++◌, length, take, drop, map, refl, sym, ap, subst, ◌∙◌, append_assoc, arith, eqb}
 use Rattle.std.proofs.lemmas.Bool.{cases_lt, false≢true}
 use Rattle.std.proofs.lemmas.Bool.Decides.{Decides-eqb}
@@ -165,7 +165,7 @@ part_more kept more front part there =
           (sym (ap (take 3) (drop-append-le place kept more (omega arith)) ∙ take-append-le 3 (drop place kept) more (omega (arith, length-drop place kept))) ∙ is);
     }
 
--- the mark behind a short frame part is among the kept bytes
+-- the mark after a short frame part is among the kept bytes
 long_part : (line front b : List ℕ) → IsFramePart (kept_of line) front → front ≡ kept_of line → 193 ≤ length (kept_of line) → IsFramePart line b → 191 ≤ length b
 long_part line front b part all long other = by_size (cases_lt (length b) 191)
   where

@@ -1,4 +1,4 @@
--- The lines that tell verdicts and their total.
+-- The output lines for verdicts and their total.
 use Rattle.std.proofs.Common.{◌≡◌, ℕ, [], ◌∷◌, ◌++◌, codes, decimal, sym, ap, ◌∙◌, append_assoc}
 use Rattle.can_texts.specs.declared.lines.vector.Verdict.{Verdict}
 use Rattle.can_texts.specs.declared.lines.vector.Verdict.TheVariants.{Agrees, DiffersAt}

@@ -1,9 +1,9 @@
--- How much of its answer a stream of lines has written, over the relation `Answer` between lines and what
--- is written for them. (docs/FORMATS.md, "Faults and statuses of the program")
+-- How much of its output a stream of lines has written. `Answer` relates lines to their output. (docs/FORMATS.md,
+-- "Faults and statuses of the program")
 use Rattle.std.specs.Prelude.{◌≡◌, ℕ, ◌+◌, List, ◌∷◌, ◌++◌, length, Bool}
 use Rattle.can_stream.specs.Lines.{whole_lines}
 
--- The output is a beginning of the answer to some first lines of the input that are known whole.
+-- The output is a prefix of the output for some first lines of the input. These lines are known to be complete.
 pub record BeginsAnswer (Answer : List (List ℕ) → List ℕ → Type 0)
     (reader_ended : Bool) (input output : List ℕ) : Type 0 where
   pub good : List (List ℕ)
@@ -12,8 +12,8 @@ pub record BeginsAnswer (Answer : List (List ℕ) → List ℕ → Type 0)
   pub lines : whole_lines reader_ended input ≡ good ++ others
   pub answers : Answer good (output ++ rest)
 
--- Of the lines of the input that are known whole, the line of this number, from 1, is bad. The output is
--- the answer to the lines before it.
+-- Of the input lines that are known to be complete, the one with this number, from 1, is bad. The output is that for
+-- the lines before it.
 pub record StopsAtLine (Answer : List (List ℕ) → List ℕ → Type 0) (IsBad : List ℕ → Type 0)
     (number : ℕ) (reader_ended : Bool) (input output : List ℕ) : Type 0 where
   pub before : List (List ℕ)

@@ -1,4 +1,4 @@
--- What answering one line does, and what has been answered when all lines are done or a fault came.
+-- The effect of encoding one line, and the output when all lines are done or a fault occurred.
 use Rattle.std.specs.Prelude.{◌≡◌, ℕ, Bool, List, [], Option, Result, Ok, Err}
 use Rattle.std.specs.Io.KnownBytes.{Keeps}
 use Rattle.can_frame.specs.Parts.{Parts, IsFrame}
@@ -8,14 +8,14 @@ use Rattle.can_stream.specs.declared.fault.TraceFault.TheVariants.{BadByte, Read
 use Rattle.can_stream.specs.Outbox.{PassesOn, TakesFront}
 use Rattle.can_texts.specs.Coded.{coded_line, EncodesAll, EncodesEnded, EncodesTooLong, BeginsEncoding, IsFirstBadLine}
 
--- the line is the text of a frame, whose levels went into the buffer
+-- the line is the text of a frame, whose levels were appended to the buffer
 pub record EncodesLine (line : List ℕ) (held holds : Option (List ℕ)) (old new : List ℕ) : Type 0 where
   pub frame : Parts
   pub is_frame : IsFrame frame
   pub text : frame_text frame ≡ line
   pub passes : PassesOn held holds old new (coded_line frame)
 
--- The line of this number was not answered: the writer failed, or the line is no frame's text.
+-- The line with this number was not encoded: the writer failed, or the line is not a frame text.
 abbrev pub FailsToAnswer : TraceFault → ℕ → List ℕ → Option (List ℕ) → Option (List ℕ) → List ℕ → List ℕ → Type 0
 FailsToAnswer Write number line held holds old new = TakesFront held holds old × (new ≡ [])
 FailsToAnswer (FrameLine n fault) number line held holds old new = (n ≡ number) × (¬ IsFrameText line) × IsTextFault line fault × Keeps held holds × (new ≡ old)
@@ -25,7 +25,7 @@ FailsToAnswer Long number line held holds old new = ⊥
 FailsToAnswer (ScenarioField wrong) number line held holds old new = ⊥
 FailsToAnswer Memory number line held holds old new = ⊥
 
--- How the output answers the input when a call ends so. Here any byte may stand in a line.
+-- The output for the input, if a call ends with this result. A line may contain any byte here.
 abbrev pub Encodes : {A : Type 0} → Result A TraceFault → Bool → List ℕ → List ℕ → Type 0
 Encodes (Ok done) reader_ended = EncodesAll
 Encodes (Err (BadByte place)) reader_ended = λ input output. ⊥

@@ -1,4 +1,4 @@
--- What the steps of decoding a trace promise one another.
+-- Contracts of the steps that decode a trace.
 use Rattle.std.specs.Prelude.{◌≡◌, ℕ, ◌+◌, ◌<◌, true, false, ◌≤◌, List, [], ◌∷◌, ◌++◌, length, filter, map, replicate, take, Option, Some, None, Result, Ok, Err}
 use Rattle.std.specs.List.{flat_map, AllByRecursion}
 use Rattle.can_frame.specs.IdleRow.{idle_row}
@@ -19,17 +19,17 @@ use Rattle.can_texts.specs.declared.traces.trace.State.TheVariants.{Idle, InFram
 
 -- ---- levels
 
--- These were told of the levels that are done, and whatever is found behind them is found too.
+-- These findings are those of the levels so far, whatever is found after them.
 abbrev pub GoesOn : List Level → List Finding → Type 0
 GoesOn done told = (more : List Level) (found : List Finding) → Finds (length done) more found → Finds 0 (done ++ more) (told ++ found)
 
--- The same, where eleven recessive levels are searched from behind the levels that are done, and the search
--- has begun with these.
+-- This if, after the levels that are done, the search for eleven recessive levels is going on, and has taken the levels
+-- `begun`.
 abbrev pub SearchesOn : List Level → List Level → List Finding → Type 0
 SearchesOn begun done told = (more skipped rest : List Level) (found : List Finding) → begun ++ more ≡ skipped ++ rest → SkipsToIdle skipped rest
     → Finds (length (done ++ skipped)) rest found → Finds 0 (done ++ (skipped ++ rest)) (told ++ found)
 
--- a frame began behind the levels that are done, and its decoder has heard the levels since then
+-- a frame began after the levels that are done, and its decoder has taken the levels since then
 pub record IsInFrame (start : ℕ) (decoder : DecoderParts) (levels : List Level) (told : List Finding) : Type 0 where
   pub done : List Level
   pub others : List Level
@@ -38,48 +38,48 @@ pub record IsInFrame (start : ℕ) (decoder : DecoderParts) (levels : List Level
   pub start_is : start ≡ length done
   pub goes_on : GoesOn done told
 
--- so many recessive levels, not yet eleven, stand behind the levels that are done, in which a fault was told
+-- `row` recessive levels, fewer than eleven, follow the levels that are done, in which a fault was reported
 pub record IsLost (row : ℕ) (levels : List Level) (told : List Finding) : Type 0 where
   pub done : List Level
   pub few : row < idle_row
   pub levels_are : levels ≡ done ++ replicate row Recessive
   pub searches_on : SearchesOn (replicate row Recessive) done told
 
--- digits of levels, with which the search goes on from one row to the other
+-- digits of levels, with which the search goes from one row length to the other
 pub record Searches (row : ℕ) (digits : List ℕ) (row_now : ℕ) : Type 0 where
   pub is_text : IsTraceText digits
   pub all : length (levels_in digits) ≡ length digits
   pub lost : (levels : List Level) (told : List Finding) → IsLost row levels told → IsLost row_now (levels ++ levels_in digits) told
 
--- how the levels heard so far, and what was told of them, are related to where a trace stands
+-- the relation of the levels taken so far and their findings to the state of the trace
 abbrev pub Stands : State → List Level → List Finding → Type 0
 Stands Idle levels told = GoesOn levels told
 Stands (InFrame start decoder) levels told = IsInFrame start decoder levels told
 Stands (Lost row) levels told = IsLost row levels told
 
--- the trace has heard these levels, and these findings were told of them
+-- the trace has taken these levels, with these findings
 pub record Hearing (trace : Trace) (levels : List Level) (told : List Finding) : Type 0 where
   pub place_is : trace.place ≡ length levels
   pub stands : Stands trace.state levels told
   pub closed : AllByRecursion (λ finding. is_closed finding ≡ true) told
 
--- the trace heard these levels more, and these findings were told of them
+-- the trace took these further levels, with these findings
 abbrev pub Hears : Trace → Trace → List Level → List Finding → Type 0
 Hears old new more found = (levels : List Level) (told : List Finding) → Hearing old levels told → Hearing new (levels ++ more) (told ++ found)
 
--- what a call told
+-- the findings that a call returned
 abbrev pub told_of : Option Finding → List Finding
 told_of (Some finding) = finding ∷ []
 told_of None = []
 
--- what is found if no more levels come, where no closed line is left to be told
+-- what is found if no more levels come; no closed line is left to be reported
 pub record EndsWith (levels : List Level) (told found : List Finding) : Type 0 where
   pub finds : Finds 0 levels (told ++ found)
   pub unclosed : filter is_closed found ≡ []
 
 -- ---- bytes
 
--- bytes of trace text that are no levels
+-- bytes of trace text that are not levels
 abbrev pub AreSkipped : List ℕ → Type 0
 AreSkipped bytes = IsTraceText bytes × (levels_in bytes ≡ [])
 
@@ -87,21 +87,22 @@ AreSkipped bytes = IsTraceText bytes × (levels_in bytes ≡ [])
 abbrev pub AreDigits : List ℕ → Type 0
 AreDigits bytes = bytes ≡ map digit_of (levels_in bytes)
 
--- the digits of the first bytes, which are trace text, stand at the front of the buffer
+-- the digits of the first bytes, which are trace text, are at the front of the buffer
 pub record Gathers (bytes : List ℕ) (g : Gathered) (buffer : List ℕ) : Type 0 where
   pub within : g.taken ≤ length bytes
   pub room : g.count ≤ length buffer
   pub text : IsTraceText (take g.taken bytes)
   pub digits_are : take g.count buffer ≡ map digit_of (levels_in (take g.taken bytes))
 
--- the bytes are trace text, and the lines of what was found in its levels went into the buffer
+-- the bytes are trace text, and the output lines of its levels were appended to the buffer
 pub record HearsText (old new : Trace) (text : List ℕ) (held holds : Option (List ℕ)) (waiting waiting_now : List ℕ) : Type 0 where
   pub found : List Finding
   pub is_text : IsTraceText text
   pub hears : Hears old new (levels_in text) found
   pub passes : PassesOn held holds waiting waiting_now (flat_map finding_line found)
 
--- the bytes begin with trace text, and the writer took a front of what waited and the lines of what was found in it
+-- the bytes begin with trace text, and the writer took a prefix of the pending bytes followed by the output lines of
+-- this text
 pub record FailsToTell (old new : Trace) (bytes : List ℕ) (held holds : Option (List ℕ)) (waiting : List ℕ) : Type 0 where
   pub text : List ℕ
   pub others : List ℕ
@@ -111,11 +112,11 @@ pub record FailsToTell (old new : Trace) (bytes : List ℕ) (held holds : Option
   pub hears : Hears old new (levels_in text) found
   pub takes : TakesFront held holds (waiting ++ flat_map finding_line found)
 
--- why bytes that may stand in a trace were not all heard: the writer failed
+-- why bytes that are trace text were not all decoded: the writer failed
 abbrev pub FailsToHear : TraceFault → Trace → Trace → List ℕ → Option (List ℕ) → Option (List ℕ) → List ℕ → List ℕ → Type 0
 FailsToHear e old new bytes held holds waiting waiting_now = (e ≡ Write) × FailsToTell old new bytes held holds waiting × (waiting_now ≡ [])
 
--- the first bad byte stands behind trace text, at this place where the bytes begin at the first place
+-- the first bad byte follows trace text; it has place `place`, if the bytes begin at place `first`
 pub record MeetsBadByte (old new : Trace) (first place : ℕ) (bytes : List ℕ) (held holds : Option (List ℕ)) (waiting waiting_now : List ℕ) : Type 0 where
   pub text : List ℕ
   pub bad : ℕ
@@ -125,7 +126,7 @@ pub record MeetsBadByte (old new : Trace) (first place : ℕ) (bytes : List ℕ)
   pub place_is : place ≡ first + length text
   pub hears : HearsText old new text held holds waiting waiting_now
 
--- why the bytes, of which the first has this place in the input, were not all heard
+-- why the bytes, the first of which has this place in the input, were not all decoded
 abbrev pub StopsHearing : TraceFault → Trace → Trace → ℕ → List ℕ → Option (List ℕ) → Option (List ℕ) → List ℕ → List ℕ → Type 0
 StopsHearing Write old new first bytes held holds waiting waiting_now = FailsToTell old new bytes held holds waiting × (waiting_now ≡ [])
 StopsHearing (BadByte place) old new first bytes held holds waiting waiting_now = MeetsBadByte old new first place bytes held holds waiting waiting_now
@@ -137,7 +138,7 @@ StopsHearing Memory old new first bytes held holds waiting waiting_now = ⊥
 
 -- ---- the whole input
 
--- How the output answers the input when a call ends so.
+-- The output for the input, if a call ends with this result.
 abbrev pub Decodes : {A : Type 0} → Result A TraceFault → List ℕ → List ℕ → Type 0
 Decodes (Ok done) = DecodesAll
 Decodes (Err (BadByte place)) = DecodesToBadByte place

@@ -1,34 +1,39 @@
-//! Texts about frames, answered: lines of frames and of vectors, and traces, over any reader and any writer.
+//! The texts of `canbit`: lines of frames, lines of vectors, and traces, over any reader and any writer.
 //!
-//! [`encode_lines`] reads frame texts, one a line, and writes for each the levels that its sender drives.
-//! [`check_lines`] reads frame texts with levels, and writes for each whether those are the levels.
-//! [`decode_stream`] reads levels of a bus, and writes a line for each frame and each fault that is found in
-//! them. Each promises what was written of what was read, for every way in which it can end, wherever the
-//! reader and the writer tell their bytes; and for all of them, which failure its answer stands for. It holds
-//! two fixed buffers, for traces three, takes no memory, and writes what is known before each read.
+//! [`encode_lines`] reads frame texts, one a line, and writes the levels that the transmitter of each drives.
+//! [`check_lines`] reads frame texts with levels, and writes for each whether the levels are right. [`decode_stream`]
+//! reads levels of a bus, and writes a line for each frame and each fault in them.
+//!
+//! The contract of each states, for every way in which it can end:
+//!
+//! - what was written for what was read, if the reader and the writer state their bytes;
+//! - for all readers and writers, which failure the result means.
+//!
+//! Each has two fixed buffers (for traces three), allocates no memory, and writes all complete output before each read.
 //!
 //! | File | What it has | Defined in |
 //! |---|---|---|
 //! | `lines/encode.rt` | [`encode_lines`] | `specs/Coded.antt`, `specs/Answered.antt` |
 //! | `lines/check.rt` | [`check_lines`] | `specs/Checked.antt`, `specs/Answered.antt` |
 //! | `lines/vector.rt` | one line of a frame text and levels, and its verdict | `specs/Checked.antt` |
-//! | `lines/verdict.rt` | the lines that tell verdicts and their total | `specs/Checked.antt` |
+//! | `lines/verdict.rt` | the output lines for verdicts and their total | `specs/Checked.antt` |
 //! | `traces/decode.rt` | [`decode_stream`] | `specs/TraceText.antt`, `specs/Decoded.antt` |
-//! | `traces/trace.rt` | a trace as it is heard, level by level | `specs/Decoding.antt` |
-//! | `traces/searching.rt` | the search for an idle row behind a fault | `specs/Decoding.antt` |
+//! | `traces/trace.rt` | a trace as it is decoded, level by level | `specs/Decoding.antt` |
+//! | `traces/searching.rt` | the search for an idle row after a fault | `specs/Decoding.antt` |
 //! | `traces/idle.rt` | rows of recessive levels, block by block | `specs/TraceText.antt` |
-//! | `traces/skipped.rt` | blanks and line ends, block by block | `specs/TraceText.antt` |
-//! | `traces/gathered.rt` | digits that stand between these, in one piece | `specs/Decoding.antt` |
-//! | `traces/masks.rt` | bytes of a block by where they stand | `specs/Decoding.antt` |
+//! | `traces/skipped.rt` | spaces and line ends, block by block | `specs/TraceText.antt` |
+//! | `traces/gathered.rt` | digits between spaces and line ends, gathered in one piece | `specs/Decoding.antt` |
+//! | `traces/masks.rt` | the places of bytes in a block | `specs/Decoding.antt` |
 //! | `traces/short_runs.rt` | when digits are gathered | |
-//! | `traces/finding.rt` | what is told of a trace, and its line | `specs/Decoded.antt` |
-//! | `laws.rt` | that lines of frames and of vectors have one answer, that in each trace one list is found, and each input has one answer | `specs/Coded.antt`, `specs/Checked.antt`, `specs/Decoded.antt` |
+//! | `traces/finding.rt` | a frame or fault in a trace, and its output line | `specs/Decoded.antt` |
+//! | `laws.rt` | that lines of frames and of vectors have one output, that a trace contains one list of frames and faults, and that each input has one output | `specs/Coded.antt`, `specs/Checked.antt`, `specs/Decoded.antt` |
 //!
-//! Levels of a trace are heard where they stand, as far as their digits stand together. Digits that stand apart are gathered
-//! first, so that they are heard in runs too.
+//! Levels of a trace are decoded in the read buffer if their digits are adjacent. Digits that are not adjacent are
+//! gathered first, so that they are also decoded in runs.
 //!
-//! `specs/Answering.antt` has what the steps of `encode.rt` promise one another, `specs/Checking.antt` those of `check.rt`,
-//! `specs/Decoding.antt` those of `decode.rt` and `trace.rt`. `proofs/Lib.antt` says what each file of lemmas has.
+//! The contracts of private functions are in `specs/Answering.antt` (`encode.rt`), `specs/Checking.antt` (`check.rt`)
+//! and `specs/Decoding.antt` (`decode.rt`, `trace.rt`). `proofs/Lib.antt` lists the files of lemmas with their
+//! contents.
 #![tactic(auto)]
 
 mod laws;

@@ -1,4 +1,4 @@
-//! Lines of frames and of vectors, an answer for each.
+//! Lines of frames and of vectors, with an output line for each.
 mod check;
 mod encode;
 mod vector;

@@ -1,4 +1,4 @@
-//! Traces, with a line for each frame and each fault that is found in them.
+//! Traces, with an output line for each frame and each fault in them.
 mod decode;
 mod finding;
 mod gathered;

@@ -26,7 +26,7 @@ use Rattle.can_node.proofs.Arrivals.{gains, offered-gains}
 
 -- ---- the ports
 
--- what waits is not told
+-- pending frames are not reported
 told-alike : (plans : List PortPlan) → map reported (map made_port plans) ≡ map reported (map waiting_port plans)
 told-alike [] = refl
 told-alike (plan ∷ plans) =

@@ -247,7 +247,7 @@ earlier x y = is_lt (nat_cmp x.time y.time)
 tie-is : (a b : ℕ) → (not (is_lt (nat_cmp a b)) && not (is_lt (nat_cmp b a))) ≡ eqb b a
 tie-is a b = grind (arith, nat_tests)
 
--- from the clause `stable` of `sort_by_key`, where each call gives an offer's time
+-- from the clause `stable` of `sort_by_key`, if each call gives an offer's time
 pub stable-from_sort_by_key : {F : Type 0} {g : Mut F (Bor Offer × Unit {0}) ℕ} {f : F} (xs ys : List Offer) → ((key : Offer → ℕ) → ComputesKey g key f → IsStableByKey key nat_cmp xs ys) →
     ((a : Bor Offer × Unit {0}) (r : ℕ) (f' : F) → Called g f a r f' → (r ≡ a.0.now.time) × (f' ≡ f)) → IsStableByKey (λ (o : Offer). o.time) nat_cmp xs ys
 stable-from_sort_by_key {g = g} {f = f} xs ys stable h = stable (λ (o : Offer). o.time) (always_returns_same g (λ a r. r ≡ a.0.now.time) f h)

@@ -84,7 +84,7 @@ plan-of [] n p there = absurd (let e : None ≡ Some p = there in cc)
 plan-of (plan ∷ plans) zero p there = (plan, refl, (let e : Some (made_port plan) ≡ Some p = there in cc))
 plan-of (plan ∷ plans) (suc n) p there = plan-of plans n p there
 
--- each queue has room for what its port is offered
+-- each queue has space for what its port is offered
 pub planned-room : (plans : List PortPlan) → QueuesHaveRoom (in_time (offers_from 0 plans)) (map made_port plans)
 planned-room plans n p there =
     let offers = in_time (offers_from 0 plans) in
@@ -139,7 +139,7 @@ module _ (s : Scenario) (is : IsOpenScenario s) where
     scheduled = subst (λ all. IsScheduleOf all starts) (sym all-are) (one-schedule (map timed offers) different);
   }
 
-  -- ---- what is told of the ports as they end
+  -- ---- the reports of the ports at the end
 
   -- the whole line in the log, and nothing counted or missed
   abbrev EndsOpen : ℕ → PortState → PortState → Type 0

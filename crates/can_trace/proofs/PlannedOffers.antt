@@ -82,7 +82,7 @@ module _ (plans : List PortPlan) (n : ℕ) (plan : PortPlan) (there : slice_get 
       (IsPermutation-map (λ (x : TimedParts). x.frame) (offered_to n (in_time (offers_from 0 plans))) (map timed (filter (is_to n) (offers_from 0 plans)))
       (IsPermutation-map timed (filter (is_to n) (in_time (offers_from 0 plans))) (filter (is_to n) (offers_from 0 plans)) (in_time-filter (is_to n) (offers_from 0 plans))))
 
-  -- as many
+  -- the same number
   pub own-size : length (offered_to n (in_time (offers_from 0 plans))) ≡ length plan.queue.items
   own-size =
       sym (length-map (offered_to n (in_time (offers_from 0 plans))) (λ (x : TimedParts). x.frame))

@@ -1,4 +1,5 @@
--- In which order a port of a quiet scenario was offered its frames is not told by the report.
+-- The report of a quiet scenario does not depend on the order in which a port was offered its
+-- frames.
 use Rattle.std.specs.Prelude.{All}
 use Rattle.std.specs.List.{AllByRecursion}
 use Rattle.std.specs.List.Sorted.{IsPermutation}

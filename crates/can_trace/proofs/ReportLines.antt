@@ -14,7 +14,7 @@ pub port_parts : (a n b s c t d r e m f : List ℕ) →
     ((((((a ++ n) ++ b) ++ s) ++ (c ++ t)) ++ (d ++ r)) ++ (e ++ m)) ++ f ≡ a ++ (n ++ (b ++ (s ++ (c ++ (t ++ (d ++ (r ++ (e ++ (m ++ f)))))))))
 port_parts a n b s c t d r e m f = simp append_assoc
 
--- bytes behind what a line held
+-- bytes after what a line had
 pub pushed : (new old bytes piece before : List ℕ) → new ≡ old ++ bytes → bytes ≡ piece → old ≡ before → new ≡ before ++ piece
 pushed new old bytes piece before push is held = push ∙ ap (λ t. old ++ t) is ∙ ap (λ t. t ++ piece) held
 

@@ -26,7 +26,7 @@ pub made-all : {N : Type 0} (port : N → PortState) (nodes : List N) (plans : L
     map port nodes ≡ map made_port plans
 made-all port nodes plans n h before = before ∙ ap (map made_port) (take_all n plans h)
 
--- there are as many as are planned
+-- there are as many ports as plans
 pub made-size : {N : Type 0} (port : N → PortState) (nodes : List N) (plans : List PortPlan) → map port nodes ≡ map made_port plans → length nodes ≡ length plans
 made-size port nodes plans is = sym (length-map nodes port) ∙ ap length is ∙ length-map plans made_port
 
@@ -117,6 +117,6 @@ disturbed-ends s n start after some from size ran =
     ap (λ (b : BusState). b.ports)
     (ran ∙ ap (λ b. bus_run s.hits.items n b) from ∙ ap (λ k. bus_run s.hits.items k (waiting_bus s)) size ∙ sym (disturbed-end s s.hits.items some))
 
--- there are as many as are planned
+-- there are as many ports as plans
 pub same-size : {N : Type 0} (port : N → PortState) (from : PortPlan → PortState) (nodes : List N) (plans : List PortPlan) → map port nodes ≡ map from plans → length nodes ≡ length plans
 same-size port from nodes plans is = sym (length-map nodes port) ∙ ap length is ∙ length-map plans from

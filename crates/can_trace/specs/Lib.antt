@@ -1,5 +1,5 @@
--- To believe: the words of what public calls and laws promise, and of the crates below that this one names, by the page
--- of docs/ that each of them gives
+-- To believe: the definitions in which public calls and laws state what they promise. Those of other crates are
+-- exported too.
 pub mod ScenarioOffers
 pub mod Report
 pub mod QuietReport

@@ -13,13 +13,13 @@ use Rattle.can_trace.specs.Report.{levels_until, report_text}
 abbrev pub AreFirst : PortPlan → Type 0
 AreFirst plan = All (λ timed. timed.time ≡ 0) plan.queue.items
 
--- a scenario of an open bus, all frames of which are offered at time 0
+-- a scenario of an open bus whose frames are all offered at time 0
 pub record IsQuietScenario (s : Scenario) : Type 0 where
   pub is_open : IsOpenScenario s
   pub first : All AreFirst s.ports.items
 
--- the report of a quiet bus at whose ports these frames waited, after so many bit times: the line of the frames, and
--- at each port all frames, in the order of arbitration
+-- the report of a quiet bus at whose ports these frames were pending, after this number of bit times: the levels of the
+-- frames one after another, and at each port all frames, in the order of priority
 abbrev pub quiet_report : ℕ → List (List Parts) → List ℕ
 quiet_report bits waiting =
     let frames : List Parts = ascending (all_frames waiting) in
@@ -27,18 +27,18 @@ quiet_report bits waiting =
 
 -- ---- the order within a queue
 
--- at each port the same frames, in whatever order it was offered them
+-- at each port the same frames, in any order
 abbrev pub AreReordered : (waiting others : List (List Parts)) → Type 0
 AreReordered [] [] = Unit {0}
 AreReordered [] (other ∷ others) = ⊥
 AreReordered (queue ∷ waiting) [] = ⊥
 AreReordered (queue ∷ waiting) (other ∷ others) = IsPermutation queue other × AreReordered waiting others
 
--- all that waits are frames
+-- everything that is offered is a valid frame
 abbrev pub HoldsFrames : Scenario → Type 0
 HoldsFrames s = AllByRecursion (λ queue. All IsFrame queue) (queues s)
 
--- two quiet scenarios that run for as many bit times, with the same frames at each port, in whatever order
+-- two quiet scenarios with the same number of bit times and the same frames at each port, in any order
 pub record AreReorderings (s t : Scenario) : Type 0 where
   pub first : IsQuietScenario s
   pub second : IsQuietScenario t

@@ -1,5 +1,5 @@
--- The report of a scenario: what the bus records, and what is told of each port behind the run.
--- (docs/FORMATS.md, "`canbit run`")
+-- The report of a scenario: the levels that the bus records, and the state and log of each port after the run. (docs/FORMATS.md,
+-- "`canbit run`")
 use Rattle.std.specs.Prelude.{ℕ, zero, suc, ◌+◌, Bool, if◌then◌else◌, List, [], ◌∷◌, ◌++◌, length, map, codes, decimal}
 use Rattle.std.specs.List.{flat_map}
 use Rattle.can_frame.specs.declared.level.Level.{Level}
@@ -22,12 +22,13 @@ use Rattle.can_scenario_text.specs.declared.scenario.PortPlan.{PortPlan}
 
 -- ---- the run
 
--- A port as it is made: with a place in its queue for each frame that it is offered, and asked for its overload frames.
+-- A port as it is created: its queue has space for each frame that it is offered, and it asks for its overload frames.
 abbrev pub made_port : PortPlan → PortState
 made_port plan =
     port_holding plan.overloads
     (fresh_port (if plan.joins then joining else idle) (length plan.queue.items) plan.log_room)
 
+-- the bus of the ports as they are created
 abbrev pub made_bus : Scenario → BusState
 made_bus s = new_bus (map made_port s.ports.items)
 
@@ -35,39 +36,41 @@ made_bus s = new_bus (map made_port s.ports.items)
 abbrev pub frames_of_queue : PortPlan → List Parts
 frames_of_queue plan = map (λ timed. timed.frame) plan.queue.items
 
--- the port with all its frames waiting
+-- the port with all its frames pending
 abbrev pub waiting_port : PortPlan → PortState
 waiting_port plan = all_offered (frames_of_queue plan) (made_port plan)
 
+-- the bus whose ports have all their frames pending
 abbrev pub waiting_bus : Scenario → BusState
 waiting_bus s = new_bus (map waiting_port s.ports.items)
 
--- The bus as the run ends. Without disturbances each frame is offered before its bit time. With disturbances, all frames of which
--- have time 0, the frames wait as the run begins.
+-- The bus at the end of the run. Without injected bit errors each frame is offered before its bit time. With them all frames,
+-- which in a document then have time 0, are pending at the beginning of the run.
 abbrev pub ended_with : List Hit → Scenario → BusState
 ended_with [] s = played (scenario_offers s) s.bits (made_bus s)
 ended_with (hit ∷ hits) s = bus_run (hit ∷ hits) s.bits (waiting_bus s)
 
+-- the bus at the end of a scenario's run
 abbrev pub ended_bus : Scenario → BusState
 ended_bus s = ended_with s.hits.items s
 
--- the level that is recorded at a time
+-- the level that is recorded at time t
 abbrev pub level_by : List Hit → Scenario → ℕ → Level
 level_by [] s t = played_level (scenario_offers s) t (made_bus s)
 level_by (hit ∷ hits) s t = bus_level (hit ∷ hits) t (waiting_bus s)
 
--- the levels at times 0 to n
+-- the levels at the first n times, 0 to n - 1
 abbrev pub levels_until : (ℕ → Level) → ℕ → List Level
 levels_until level zero = []
 levels_until level (suc n) = levels_until level n ++ level n ∷ []
 
--- the levels that are recorded
+-- the recorded levels
 abbrev pub recorded_levels : Scenario → List Level
 recorded_levels s = levels_until (level_by s.hits.items s) s.bits
 
 -- ---- the text
 
--- what is told of a port
+-- the report of a port
 pub record PortReport : Type 0 where
   pub state : State
   pub tec : ℕ
@@ -75,6 +78,7 @@ pub record PortReport : Type 0 where
   pub missed : ℕ
   pub log : List Entry
 
+-- the report of a port in this state
 abbrev pub reported : PortState → PortReport
 reported p = record {
   state = state_of p.mac.counters;
@@ -122,7 +126,7 @@ report_text levels ports = bits_line (length levels) ++ (levels_line levels ++ p
 abbrev pub report : Scenario → List ℕ
 report s = report_text (recorded_levels s) (map reported (ended_bus s).ports)
 
--- the report of a run at whose beginning all frames wait
+-- the report of a run at whose beginning all frames are pending
 abbrev pub waiting_report : Scenario → List ℕ
 waiting_report s =
     report_text (levels_until (λ t. bus_level s.hits.items t (waiting_bus s)) s.bits)

@@ -10,16 +10,16 @@ ghost use Rattle.can_trace.specs.QuietReport.{AreFirst, AreReordered, AreReorder
 ghost use Rattle.can_trace.specs.Report.{made_bus, report, waiting_report};
 ghost use Rattle.can_trace.specs.ScenarioOffers.{IsInTimeOrder, in_time, scenario_offers};
 
-/// Offers have exactly one list in which they stand in the order of time, and those of one time in the order
-/// that they had. It has the same offers.
+/// Offers have exactly one order by time that keeps the order of offers with the same time. It contains the
+/// same offers.
 pub fn one_order_of_offers()
     ensures exists { (offers : List Offered) → IsInTimeOrder offers (in_time offers) }
     ensures only { (offers ordered : List Offered) → IsInTimeOrder offers ordered → ordered ≡ in_time offers }
     ensures same { (offers : List Offered) → IsPermutation (in_time offers) offers }
 {}
 
-/// A scenario all frames of which have time 0, as those of version 1 have, runs as a bus at whose ports they
-/// wait as the run begins, with or without disturbances.
+/// A scenario whose frames all have time 0 runs like a bus at whose ports they are pending at the beginning.
+/// This holds with and without injected bit errors. All scenarios of version 1 are of this kind.
 pub fn frames_of_time_0_wait()
     ensures { (s : Planned) → All AreFirst s.ports.items → report s ≡ waiting_report s }
 {}
@@ -29,8 +29,9 @@ pub fn no_offer_finds_a_full_queue()
     ensures { (s : Planned) (n : ℕ) → refused (scenario_offers s) n (made_bus s) ≡ 0 }
 {}
 
-/// In which order a port of a quiet scenario was offered its frames is not told by the report: two that run
-/// for as many bit times, with the same frames at each port in whatever order, have the same report.
+/// The report of a quiet scenario does not depend on the order in which each port was offered its frames.
+/// Two scenarios with the same number of bit times, and with the same frames at each port in any order, have
+/// the same report.
 pub fn offering_order_is_untold()
     ensures quiet { (bits : ℕ) (waiting others : List (List Parts)) → AreDifferent (all_frames waiting) → AreReordered waiting others →
         quiet_report bits waiting ≡ quiet_report bits others }

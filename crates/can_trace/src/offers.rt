@@ -6,8 +6,8 @@ use can_bus::Offer;
 use can_scenario_text::{PortPlan, TimedFrame};
 use std::alloc::{AllocError, Global};
 
-/// What these ports are offered, in the order of time. Offers of one time stand in the order of the ports, and
-/// those to one port in the order of its queue.
+/// Returns the offers to these ports in the order of time. Offers with the same time are in the order of the
+/// ports, and those to one port in the order of its queue.
 pub fn offers_in_time(alloc: Global, plans: &[PortPlan]) -> Result<Vec<Offer>, AllocError>
     ensures { IfOk result (λ offers. offers.items ≡ in_time (offers_from 0 plans.now)) }
 {
@@ -16,7 +16,7 @@ pub fn offers_in_time(alloc: Global, plans: &[PortPlan]) -> Result<Vec<Offer>, A
     Ok(offers)
 }
 
-/// What these ports are offered, in their order.
+/// The offers to these ports, in the order of the ports.
 fn all_offers(alloc: Global, plans: &[PortPlan]) -> Result<Vec<Offer>, AllocError>
     ensures { IfOk result (λ offers. offers.items ≡ offers_from 0 plans.now) }
 {
@@ -27,7 +27,7 @@ fn all_offers(alloc: Global, plans: &[PortPlan]) -> Result<Vec<Offer>, AllocErro
     Ok(offers)
 }
 
-/// Adds what the port of this number is offered.
+/// Adds the offers to the port with this number.
 fn add_offers(node: usize, queue: &[TimedFrame], offers: &mut Vec<Offer>) -> Result<(), AllocError>
     ensures { OnOk result (offers.new.items ≡ offers.old.items ++ map (offer_to node) queue.now) }
 {

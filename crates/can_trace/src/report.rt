@@ -1,4 +1,4 @@
-//! The report of a run, put line by line.
+//! The report of a run, written line by line.
 ghost use Rattle.std.specs.Prelude.{◌≡◌, ◌≤◌, false, [], length, map, is_err, IfErr, OnOk, OnErr};
 ghost use Rattle.std.specs.Io.KnownBytes.{Appends};
 ghost use Rattle.std.specs.List.{flat_map};
@@ -12,10 +12,11 @@ use can_node::{Entry, Port};
 use can_stream::line::{Line, push, push_named};
 use can_stream::{Outbox, Sink, TraceFault, write_digits};
 
-/// How many levels are put at once.
+/// The number of levels that are written at once.
 const PIECE: usize = 1024;
 
-/// Writes the report of a run: how many levels were recorded, the levels, and what is told of each port.
+/// Writes the report of a run: the number of recorded levels, the levels, and the state and log of each
+/// port.
 pub(crate) fn write_report<P: Port, W: Sink>(
     levels: &[Level],
     ports: &[P],
@@ -32,7 +33,7 @@ pub(crate) fn write_report<P: Port, W: Sink>(
     out.flush(w)
 }
 
-/// Puts the whole report.
+/// Appends the whole report.
 fn put_report<P: Port, W: Sink>(
     levels: &[Level],
     ports: &[P],
@@ -49,7 +50,7 @@ fn put_report<P: Port, W: Sink>(
     put_ports(ports, w, out)
 }
 
-/// Puts the levels as digits, in one line.
+/// Appends the levels as digits, in one line.
 fn put_levels<W: Sink>(levels: &[Level], w: &mut W, out: &mut Outbox) -> Result<(), TraceFault>
     requires { W.has_failed w.old ≡ false }
     ensures puts { Puts result (W.contents w.old) (W.contents w.new) out.old out.new (levels_line levels.now) }
@@ -65,7 +66,7 @@ fn put_levels<W: Sink>(levels: &[Level], w: &mut W, out: &mut Outbox) -> Result<
     out.put(w, b"\n")
 }
 
-/// Puts the digits of so few levels.
+/// Appends the digits of at most `PIECE` levels.
 fn put_digits<W: Sink>(levels: &[Level], w: &mut W, out: &mut Outbox) -> Result<(), TraceFault>
     requires few { length levels.now ≤ PIECE }
     requires unfailed { W.has_failed w.old ≡ false }
@@ -79,7 +80,7 @@ fn put_digits<W: Sink>(levels: &[Level], w: &mut W, out: &mut Outbox) -> Result<
     out.put(w, &digits[..count])
 }
 
-/// Puts the lines of all ports.
+/// Appends the lines of all ports.
 fn put_ports<P: Port, W: Sink>(ports: &[P], w: &mut W, out: &mut Outbox) -> Result<(), TraceFault>
     requires { W.has_failed w.old ≡ false }
     ensures puts { Puts result (W.contents w.old) (W.contents w.new) out.old out.new (ports_lines 0 (map reported (map P.port ports.now))) }
@@ -92,7 +93,7 @@ fn put_ports<P: Port, W: Sink>(ports: &[P], w: &mut W, out: &mut Outbox) -> Resu
     Ok(())
 }
 
-/// Puts the lines of a port: its own, and one for each entry of its log.
+/// Appends the lines of a port: its own, and one for each entry of its log.
 fn put_port<P: Port, W: Sink>(
     number: usize,
     port: &P,
@@ -108,7 +109,7 @@ fn put_port<P: Port, W: Sink>(
     put_entries(port.log(), w, out)
 }
 
-/// Puts the lines of entries.
+/// Appends the lines of entries.
 fn put_entries<W: Sink>(entries: &[Entry], w: &mut W, out: &mut Outbox) -> Result<(), TraceFault>
     requires { W.has_failed w.old ≡ false }
     ensures puts { Puts result (W.contents w.old) (W.contents w.new) out.old out.new (flat_map entry_line entries.now) }
@@ -121,7 +122,7 @@ fn put_entries<W: Sink>(entries: &[Entry], w: &mut W, out: &mut Outbox) -> Resul
     Ok(())
 }
 
-/// The line that tells how many levels there are.
+/// The line with the number of levels.
 fn written_bits(bits: usize) -> Line
     ensures { result.items ≡ bits_line bits }
 {
@@ -159,7 +160,7 @@ fn written_entry(entry: &Entry) -> Line
     line
 }
 
-/// The word for a frame that was sent, or taken.
+/// The word for a frame that was transmitted, or received.
 fn mark(sent: bool) -> &'static [u8]
     ensures word { result.now ≡ mark_word sent }
     ensures length { length result.now ≡ 5 }

@@ -1,4 +1,4 @@
-//! A scenario that is run.
+//! Runs a scenario.
 ghost use Rattle.std.specs.Prelude.{◌≡◌, ◌≢◌, ◌+◌, ◌≤◌, ◌⊎◌, ◌↔◌, false, [], length, map, vec_len, IsTrue, IsErrOf, IfErr, IfOk, OnOk};
 ghost use Rattle.std.specs.Io.KnownBytes.{Appends};
 ghost use Rattle.can_bus.specs.OpenBus.{AreOver};
@@ -20,24 +20,28 @@ use std::alloc::{AllocError, Global};
 
 /// Runs the scenario and writes its report.
 ///
-/// The ports are made, given their wish for overload frames, and run on one bus. Without disturbances each
-/// frame is offered to its port before the bit time that the scenario says: those of one bit time in the
-/// order of the ports, and those of one port in the order of its queue. A frame behind the last bit time is
-/// not offered. With disturbances, where all frames have time 0, they are offered before the run.
+/// The ports are created with the overload frames that they ask for, and run on one bus. Without injected bit
+/// errors, each frame is offered to its port before the bit time that the scenario states. Frames with the same
+/// bit time are offered in the order of the ports, those of one port in the order of its queue. A frame after
+/// the last bit time is not offered. With injected bit errors, all frames are offered before the run; in a
+/// document with such errors they have time 0.
 ///
-/// The report is the line `bits` with how many bit times there were;
-/// the recorded levels as digits, in one line; and for each port a line `port` with its number, its state
-/// `active`, `passive` or `off`, `tec` and `rec` with its error counters and `missed` with how many entries its
-/// log had no room for, and behind it a line for each entry of its log: two blanks, `sent` or `took`, and the
-/// frame's text. Each line is ended by 0x0a. The writer must not have failed before the call.
+/// The report consists of these lines, each ended by 0x0a:
 ///
-/// All memory is taken before the first byte is written: after `Memory` nothing has been. After `Write` a
-/// beginning of the report has been written, and the writer is not tried again. There is no other fault.
+/// - `bits` with the number of bit times;
+/// - the recorded levels as digits;
+/// - for each port a line `port` with its number and its state, `active`, `passive` or `off`; after `tec` and
+///   `rec` its error counters, after `missed` the number of entries that did not fit into its log;
+/// - after it, for each entry of the port's log, two spaces, `sent` or `took`, and the frame's text.
 ///
-/// Of an open scenario that runs until its last frame is over, the report is told by its frames, when each is
-/// offered and to which port, and the number of bit times: each frame starts when the schedule says, and each
-/// port has them all in its log, in this order. Of a quiet one, whose frames all have time 0, that is the order
-/// of arbitration.
+/// The writer must not have failed before the call. All memory is allocated before the first byte is written:
+/// after `Memory`, nothing has been written. After `Write`, a prefix of the report has been written, and the
+/// writer is not called again. There is no other fault.
+///
+/// If an open scenario runs until its last frame is over, only its frames, their ports and times, and the
+/// number of bit times determine the report. Each frame starts at the time of the schedule, and each port has
+/// all frames in its log, in this order. In a quiet scenario, whose frames all have time 0, this is the order
+/// of priority.
 pub fn run_scenario<W: Sink>(
     alloc: Global,
     scenario: &Scenario,
@@ -60,16 +64,17 @@ pub fn run_scenario<W: Sink>(
     write_report(&ended.levels, &ended.ports, w)
 }
 
-/// A scenario that has run.
+/// The result of a scenario's run.
 #[derive(Drop)]
 pub struct Ended {
-    /// The levels that were recorded.
+    /// The recorded levels.
     pub levels: Vec<Level>,
-    /// The ports as they ended.
+    /// The ports at the end.
     pub ports: Vec<PackedNode>,
 }
 
-/// Runs the scenario. It fails only where an allocation does.
+/// Runs the scenario, and returns the recorded levels and the ports at the end. It fails only if an allocation
+/// fails.
 pub fn run_to_end(alloc: Global, scenario: &Scenario) -> Result<Ended, AllocError>
     ensures levels { IfOk result (λ ended. ended.levels.items ≡ recorded_levels scenario.now) }
     ensures ports { IfOk result (λ ended. map ⟦<PackedNode as Port>⟧.port ended.ports.items ≡ (ended_bus scenario.now).ports) }
@@ -85,7 +90,7 @@ pub fn run_to_end(alloc: Global, scenario: &Scenario) -> Result<Ended, AllocErro
     }
 }
 
-/// Runs a scenario without disturbances.
+/// Runs a scenario without injected bit errors.
 fn play(alloc: Global, scenario: &Scenario) -> Result<Ended, AllocError>
     requires { scenario.now.hits.items ≡ [] }
     ensures levels { IfOk result (λ ended. ended.levels.items ≡ recorded_levels scenario.now) }
@@ -99,7 +104,7 @@ fn play(alloc: Global, scenario: &Scenario) -> Result<Ended, AllocError>
     let Ok(mut bus) = Bus::new(ports) else {
         unreachable!();
     };
-    // a queue has room for all that its port is offered
+    // a queue has space for all frames that its port is offered
     let Ok(_refused) = bus.play(&offers, &mut levels) else {
         unreachable!();
     };
@@ -109,7 +114,7 @@ fn play(alloc: Global, scenario: &Scenario) -> Result<Ended, AllocError>
     })
 }
 
-/// Runs a scenario with disturbances, all frames of which wait as the run begins.
+/// Runs a scenario with injected bit errors. All its frames are pending at the beginning.
 fn disturb(alloc: Global, scenario: &Scenario) -> Result<Ended, AllocError>
     requires { scenario.now.hits.items ≢ [] }
     ensures levels { IfOk result (λ ended. ended.levels.items ≡ recorded_levels scenario.now) }
@@ -131,14 +136,14 @@ fn disturb(alloc: Global, scenario: &Scenario) -> Result<Ended, AllocError>
     })
 }
 
-/// A level for each of so many bit times.
+/// A level for each of `bits` bit times.
 fn unrecorded(alloc: Global, bits: u32) -> Result<Vec<Level>, AllocError>
     ensures { IfOk result (λ levels. vec_len levels ≡ bits) }
 {
     Vec::from_elem(alloc, Level::Recessive, bits as usize)
 }
 
-/// The ports as they are made.
+/// The ports as they are created.
 fn made_ports(alloc: Global, plans: &[PortPlan]) -> Result<Vec<PackedNode>, AllocError>
     ensures { IfOk result (λ ports. map ⟦<PackedNode as Port>⟧.port ports.items ≡ map made_port_of plans.now) }
 {
@@ -149,7 +154,8 @@ fn made_ports(alloc: Global, plans: &[PortPlan]) -> Result<Vec<PackedNode>, Allo
     Ok(ports)
 }
 
-/// A port as it is made.
+/// Returns a port as it is created, with the plan's queue and log capacity, overload frames and bus
+/// integration.
 pub fn made_port(alloc: Global, plan: &PortPlan) -> Result<PackedNode, AllocError>
     ensures { IfOk result (λ node. ⟦<PackedNode as Port>⟧.port node ≡ made_port_of plan.now) }
 {
@@ -173,7 +179,7 @@ fn offer_waiting(ports: &mut [PackedNode], plans: &[PortPlan])
     }
 }
 
-/// Offers the frames in their order to a port that has room for them.
+/// Offers the frames, in their order, to a port that has space for them.
 pub fn offer_all<P: Port>(port: &mut P, queue: &[TimedFrame])
     requires { length (P.port port.old).queue + length queue.now ≤ (P.port port.old).queue_room }
     ensures { P.port port.new ≡ all_offered (map (λ timed. timed.frame) queue.now) (P.port port.old) }

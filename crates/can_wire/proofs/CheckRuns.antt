@@ -1,4 +1,4 @@
--- A check sequence that grows level by level, and what it is of levels that end with a check sequence.
+-- The CRC sequence of a growing list of levels, and the CRC sequence of levels that end with their own.
 use Rattle.std.proofs.Common.{◌≡◌, ℕ, suc, zero, ◌+◌, ◌-◌, ◌<◌, ◌≤◌, ◌^◌, List, [], ◌∷◌, ◌++◌, length, drop, refl, sym, ◌∙◌, ap, subst, arith, length-append}
 use Rattle.std.proofs.lemmas.List.{append_cancel_right, drop_at, length-drop, take-append-drop}
 use Rattle.can_frame.specs.declared.level.Level.{Level}
@@ -12,11 +12,11 @@ use Rattle.can_wire.proofs.XorLemmas.{xor_comm, xor_assoc, xor_zeros, xor_zeros_
 use Rattle.can_wire.proofs.DivisionLemmas.{none, length-reduced, length-crc_of, IsCrc-crc_of, IsCrc-only}
 use Rattle.can_wire.proofs.Register.{register, register-nil, register-append, register-crc_of}
 
--- the check sequence of the same levels
+-- the CRC sequence of these levels
 pub IsCrc-same : {a b c : List Level} → a ≡ b → IsCrc a c → IsCrc b c
 IsCrc-same {c = c} same is = subst (λ l. IsCrc l c) same is
 
--- where a register holds the check sequence of some levels, its step over more levels makes it that of them all
+-- if a register has the CRC sequence of some levels, its step over more levels gives that of them all
 pub IsCrc-on : (r next : ℕ) (levels more : List Level) → bits_of 15 next ≡ register (bits_of 15 r) more → IsCrc levels (bits_of 15 r)
     → IsCrc (levels ++ more) (bits_of 15 next)
 IsCrc-on r next levels more step is =
@@ -58,7 +58,7 @@ register-sum r c size =
     let longer : c ++ none 15 ≡ xor c (none 30) = sym (xor_zeros_longer c 15) ∙ ap (λ n. xor c (none (n + 15))) size in
     ap (λ n. reduced n (xor r (c ++ none 15))) size ∙ ap (λ t. reduced 15 (xor r t)) longer ∙ ap (reduced 15) (sym (xor_assoc r c (none 30)))
 
--- The levels u end with the check sequence of those before it exactly where their own is dominant throughout.
+-- The levels u end with the CRC sequence of those before it exactly if their own is all dominant.
 module _ (u : List Level) (long : 15 ≤ length u) where
   fifteen : length (check_of u) ≡ 15
   fifteen = omega (arith, length-drop (length u - 15) u, long)
@@ -84,7 +84,7 @@ module _ (u : List Level) (long : 15 ≤ length u) where
       let nothing : register (none 15) (none 15) ≡ none 15 = refl in
       check-goes_on ∙ ap (λ t. register t (none 15)) (ap (xor a) (IsCrc-only (head_of u) (check_of u) is) ∙ xor_self a ∙ ap none (length-crc_of (head_of u))) ∙ nothing
 
-  -- the same of the number of their check sequence
+  -- this for the number of their CRC sequence
   module _ (n : ℕ) (is : bits_of 15 n ≡ crc_of u) where
     pub IsCrc-zero : n ≡ 0 → IsCrc (head_of u) (check_of u)
     IsCrc-zero zero_is = IsCrc-cleared (sym is ∙ ap (bits_of 15) zero_is ∙ bits_of-none 15)

@@ -1,4 +1,4 @@
--- The check sequence of a number's levels by its bytes.
+-- The CRC sequence of a number's levels by its bytes.
 use Rattle.std.proofs.Common.{◌≡◌, ℕ, zero, suc, ◌+◌, ◌*◌, ◌/◌, ◌%◌, ◌^◌, ◌<◌, ◌≤◌, List, ◌++◌, length, get_or, sym, ◌∙◌, ap, arith, length-append}
 use Rattle.std.specs.Prelude.{bit_xor}
 use Rattle.std.specs.Int.{byte_at, bytes_low_first, to_le_bytes, w128}
@@ -15,16 +15,16 @@ use Rattle.can_wire.proofs.DivisionLemmas.{none, reduced-xor}
 use Rattle.can_wire.proofs.Register.{register, crc_of-on}
 use Rattle.can_wire.proofs.CrcTable.{place_entry}
 
--- ---- the check sequence of one list behind another
+-- ---- the CRC sequence of one list after another
 
--- dominant bits as many as a list and its zeros add nothing to them
+-- dominant bits of the length of a list and its zeros add nothing to them
 none-added : (b : List Level) → xor (none (length b) ++ none 15) (b ++ none 15) ≡ b ++ none 15
 none-added b =
     let k = length b in
     let fits : k + 15 ≤ length (b ++ none 15) = omega (arith, length-append b (none 15)) in
     ap (λ t. xor t (b ++ none 15)) (replicate-append-replicate k 15 Dominant) ∙ xor_comm (none (k + 15)) (b ++ none 15) ∙ xor_zeros (b ++ none 15) (k + 15) fits
 
--- a register goes on over levels as over dominant ones, and their own check sequence is added
+-- a register goes on over levels as over dominant ones, and their own CRC sequence is added
 register-split : (r b : List Level) → register r b ≡ xor (register r (none (length b))) (crc_of b)
 unfolding crc_of
 register-split r b =
@@ -35,7 +35,8 @@ register-split r b =
     sym (ap (λ n. xor (reduced n (xor r zeros)) (reduced k levels)) size ∙ sym (reduced-xor k (xor r zeros) levels)
     ∙ ap (reduced k) (xor_assoc r zeros levels ∙ ap (xor r) (none-added b)))
 
--- that of two lists is the sum of those of the first with dominant levels behind it and of the second
+-- that of two lists is the sum of that of the first, followed by dominant levels, and that of the
+-- second
 crc_of-append : (k : ℕ) (a b : List Level) → length b ≡ k → crc_of (a ++ b) ≡ xor (crc_of (a ++ none k)) (crc_of b)
 crc_of-append k a b size =
     crc_of-on a b ∙ register-split (crc_of a) b ∙ ap (λ t. xor t (crc_of b)) (sym (crc_of-on a (none (length b)))) ∙ ap (λ n. xor (crc_of (a ++ none n)) (crc_of b)) size

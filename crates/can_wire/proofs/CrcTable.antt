@@ -1,4 +1,4 @@
--- The table of what each byte adds to a check sequence at its place; up to eight levels in one step, by its first row.
+-- The table of what each byte adds to a CRC sequence at its place; up to eight levels in one step, by its first row.
 use Rattle.std.proofs.Common.{◌≡◌, ℕ, zero, suc, ◌+◌, ◌-◌, ◌*◌, ◌/◌, ◌%◌, ◌^◌, ◌<◌, ◌≤◌, List, [], ◌++◌, length, map, take, get_or, refl, sym, ◌∙◌, ap, subst, arith}
 use Rattle.std.specs.Prelude.{bit_xor}
 use Rattle.std.specs.Int.Bits.{mask_lt}
@@ -19,7 +19,7 @@ use Rattle.can_wire.proofs.DivisionLemmas.{length-crc_of, none}
 use Rattle.can_wire.proofs.Register.{register, crc_of-on, register-nil, register-append}
 use Rattle.can_wire.proofs.RegisterWord.{moved, crc_of-wider, register-entry, register-fed}
 
--- the check sequence of the eight bits of a byte, as a number
+-- the CRC sequence of the eight bits of a byte, as a number
 abbrev pub crc_of_byte : ℕ → ℕ
 crc_of_byte byte = number_from 0 (crc_of (bits_of 8 byte))
 
@@ -72,7 +72,7 @@ further-register (suc k) r =
 
 -- ---- the table
 
--- a row and those behind it, each from the one before by eight dominant levels
+-- a row and the following ones, each from the one before by eight dominant levels
 rows : ℕ → List ℕ → List ℕ
 rows zero row = []
 rows (suc n) row = row ++ rows n (map (further 8) row)
@@ -115,7 +115,7 @@ entry_is byte fits = ap (λ i. get_or CRC_OF_PLACES i 0) (let at : byte ≡ 256 
 pub place_entry-lt : (place byte : ℕ) → place < 15 → byte < 256 → get_or CRC_OF_PLACES (256 * place + byte) 0 < 2 ^ 15
 place_entry-lt place byte within fits = subst (λ e. e < 2 ^ 15) (sym (read place byte within fits)) (further-lt (8 * place) (crc_of_byte byte) (crc_of_byte-lt byte))
 
--- an entry is the check sequence of its byte with dominant levels behind it
+-- an entry is the CRC sequence of its byte followed by dominant levels
 pub place_entry : (place byte : ℕ) → place < 15 → byte < 256 → bits_of 15 (get_or CRC_OF_PLACES (256 * place + byte) 0) ≡ crc_of (bits_of 8 byte ++ none (8 * place))
 place_entry place byte within fits =
     ap (bits_of 15) (read place byte within fits) ∙ further-register (8 * place) (crc_of_byte byte)
@@ -123,7 +123,7 @@ place_entry place byte within fits =
 
 -- ---- up to eight levels in one step
 
--- the place in the table where up to eight levels go into a register
+-- the index in the table if up to eight levels go into a register
 pub place-lt : (k r number : ℕ) → k ≤ 8 → r < 2 ^ 15 → number < 2 ^ k → bit_xor (r / 2 ^ (15 - k)) number < 2 ^ k
 place-lt k r number few small fits =
     let size : k + (15 - k) ≡ 15 = omega (arith, few) in
@@ -145,7 +145,7 @@ register-few k r number few small fits =
     let entry = bits_of-crc_of_byte place ∙ crc_of-wider k 8 place few (place-lt k r number few small fits) ∙ ap crc_of (bits_of-xor k (r / 2 ^ n) number) in
     register-entry n k r (crc_of_byte place) (bits_of k number) size (length-bits_of k number) entry
 
--- k levels of a number more, behind the n before them
+-- k more levels of a number, after the n before them
 pub register-more : (start r next number n k left : ℕ) → bits_of 15 r ≡ register (bits_of 15 start) (bits_of n (number / 2 ^ (left + k)))
     → bits_of 15 next ≡ register (bits_of 15 r) (bits_of k (number / 2 ^ left % 2 ^ k)) → bits_of 15 next ≡ register (bits_of 15 start) (bits_of (n + k) (number / 2 ^ left))
 register-more start r next number n k left so_far step =

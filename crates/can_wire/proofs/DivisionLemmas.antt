@@ -1,5 +1,5 @@
--- Long division by the generator: it is linear, it leaves nothing of a multiple, and what it leaves
--- completes a list to a multiple. So the list that `crc_of` computes is a check sequence, and the only one.
+-- Long division by the generator: it is linear, its remainder is zero for a multiple, and the remainder
+-- completes a list to a multiple. So the list that `crc_of` computes is a CRC sequence, and the only one.
 use Rattle.std.proofs.Common.{◌≡◌, ℕ, suc, zero, ◌+◌, ◌≤◌, List, [], ◌∷◌, ◌++◌, length, refl, sym, ◌∙◌, ap, subst, arith, replicate, length-append}
 use Rattle.std.proofs.lemmas.List.{length-replicate, replicate-append-replicate}
 use Rattle.can_frame.specs.declared.level.Level.{Level}
@@ -119,7 +119,7 @@ Multiple-completed (suc n) (Recessive ∷ l) h =
     xor_padded (xor less rest) lower_terms n (omega arith) ∙ ap (λ t. xor t lower_terms) regrouped ∙ xor_twice (xor l rest) lower_terms (omega arith) in
     subst (λ t. Multiple (Recessive ∷ t)) same m
 
--- what stands behind a list is a summand
+-- the end of a list is a summand
 pub xor-behind : (b c : List Level) → 15 ≤ length c → xor (b ++ none 15) (none (length b) ++ c) ≡ b ++ c
 xor-behind b c h =
     let size : length b ≡ length (none (length b)) = sym (length-replicate (length b) Dominant) in
@@ -131,7 +131,7 @@ pub length-crc_of : (b : List Level) → length (crc_of b) ≡ 15
 unfolding crc_of
 length-crc_of b = length-reduced (length b) (b ++ none 15) (length-append b (none 15))
 
--- what is computed is a check sequence
+-- what is computed is a CRC sequence
 pub IsCrc-crc_of : (b : List Level) → IsCrc b (crc_of b)
 unfolding crc_of
 IsCrc-crc_of b = record {

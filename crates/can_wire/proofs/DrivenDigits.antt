@@ -1,4 +1,4 @@
--- The digits of levels that are stuffed one step after another, behind levels that fill them up to whole bytes.
+-- The digits of levels that are stuffed step by step, after levels that fill them up to whole bytes.
 use Rattle.std.proofs.Common.{◌≡◌, ℕ, zero, suc, replicate, ◌+◌, ◌-◌, ◌*◌, ◌/◌, ◌%◌, ◌^◌, ◌<◌, ◌≤◌, List, [], ◌∷◌, ◌++◌, length, take, drop, map, get_or, refl, sym, ◌∙◌, ap, arith, append_assoc, length-append}
 use Rattle.std.specs.List.{range_with_len}
 use Rattle.std.specs.Prelude.{slice_range}
@@ -88,7 +88,7 @@ HasDigits-all digits s u is = sym (append-nil (take s.len digits)) ∙ is.comple
 
 -- ---- levels that fill up a number of levels to whole bytes
 
--- behind them and a recessive level a frame has the stuff bits that it has alone
+-- after these levels and a recessive one, a frame has the stuff bits that it has alone
 pub filled : (n : ℕ) (u : List Level) → n < 8 → stuffed_from Recessive 1 (bits_of n 0x55 ++ Dominant ∷ u) ≡ bits_of n 0x55 ++ stuffed (Dominant ∷ u)
 unfolding bits_of stuffed
 filled zero u h = refl
@@ -125,7 +125,7 @@ unfolding stuffed_part
 filled_frame f n h =
     ap (λ u. stuffed_from Recessive 1 (bits_of n 0x55 ++ u)) (first_level f) ∙ filled n (drop 1 (unstuffed f)) h ∙ ap (λ u. bits_of n 0x55 ++ stuffed u) (sym (first_level f))
 
--- the digits behind the levels that fill up, with the ten of the tail, are those of what the sender drives
+-- the digits after the filling levels, with the ten of the tail, are those of what the transmitter drives
 module _ (f : Parts) (count number : ℕ) (levels : bits_of count number ≡ unstuffed f) (small : number < 2 ^ count) (few : count ≤ 118) where
   abbrev fill : ℕ
   fill = (8 - count % 8) % 8

@@ -26,7 +26,7 @@ bytes_from-levels (x ∷ bytes) c small =
     ∙ ap (λ t. t ∷ bytes_from (length bytes) more) (number_from-whole 8 x here)
     ∙ ap (λ t. x ∷ t) (bytes_from-levels bytes c (λ k. small (suc k)))
 
--- as many bytes are read as are asked for
+-- the requested number of bytes is read
 pub length-bytes_from : (n : ℕ) (u : List Level) → length (bytes_from n u) ≡ n
 length-bytes_from zero u = refl
 length-bytes_from (suc n) u = ap suc (length-bytes_from n (drop 8 u))

@@ -1,4 +1,4 @@
--- The head of a frame as it is heard: how long it is, and what it is where all is heard as it is sent.
+-- The head of a frame as received: its length, and its levels if all are received as sent.
 use Rattle.std.proofs.Common.{◌≡◌, ◌+◌, ◌*◌, ◌≤◌, ◌/◌, ◌^◌, Bool, true, false, cond, List, [], ◌∷◌, ◌++◌, length, refl, ◌∙◌, ap, arith, append_assoc, length-append}
 use Rattle.std.specs.List.{flat_map}
 use Rattle.can_frame.specs.declared.level.Level.{Level}
@@ -13,7 +13,7 @@ use Rattle.can_wire.specs.Layout.{level_at, data_place}
 use Rattle.can_wire.proofs.LayoutNumbers.{length-bits_of}
 use Rattle.can_wire.proofs.LayoutBytes.{length-bytes}
 
--- what stands between the SOF and r0 in a standard frame
+-- the levels between the SOF and r0 in a standard frame
 abbrev standard_format : HeardParts → List Level
 standard_format h = bits_of 11 h.frame.id.raw ++ level_from h.frame.remote ∷ Dominant ∷ []
 
@@ -40,7 +40,7 @@ module _ (h : HeardParts) where
       regrouped : head_by true ≡ Dominant ∷ (extended_format h ++ h.r0 ∷ data_field h.frame)
       regrouped = simp append_assoc
 
--- where SRR and reserved bits are heard as they are sent, the head is the one that is sent
+-- if SRR and reserved bits are received as sent, the head is the one that is sent
 pub heard_head-sent : (f : Parts) → heard_head (sent f) ≡ head f
 unfolding heard_head head
 heard_head-sent f = refl

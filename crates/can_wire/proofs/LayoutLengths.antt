@@ -1,4 +1,5 @@
--- The length that a list of levels tells: its bounds, and that a list has at most one complete front.
+-- The frame length that a list of levels determines: its bounds, and that a list has at most one
+-- complete prefix.
 use Rattle.std.proofs.Common.{◌≡◌, ◌≢◌, ℕ, ◌+◌, ◌-◌, ◌*◌, ◌≤◌, Bool, true, false, List, [], ◌∷◌, ◌++◌, length, replicate, ◌∙◌, ap, arith, length-append, inl, inr}
 use Rattle.std.proofs.lemmas.List.{nil_from_length, length-replicate}
 use Rattle.std.proofs.lemmas.Bool.{cases_lt}
@@ -53,14 +54,14 @@ length_by-append extended u w long =
     ap (λ t. length_from extended t (levels_at (u ++ w) (r + 3) 4)) (level_at-append u w r (omega arith))
     ∙ ap (length_from extended (level_at u r)) (levels_at-append u w (r + 3) 4 (omega arith))
 
--- behind the data length code no level changes the length
+-- after the data length code no level changes the length
 pub frame_len-append : (u w : List Level) → data_place (extended_of u) ≤ length u → frame_len (u ++ w) ≡ frame_len u
 unfolding frame_len
 frame_len-append u w long =
     let past_ide : 14 ≤ length u = omega (arith, rtr_place_ge (extended_of u)) in
     ap (λ t. length_by t (u ++ w)) (extended_of-append u w past_ide) ∙ length_by-append (extended_of u) u w long
 
--- dominant levels behind a list never change the length
+-- dominant levels after a list never change the length
 pub frame_len-dominant : (u : List Level) (k : ℕ) → frame_len (u ++ replicate k Dominant) ≡ frame_len u
 unfolding frame_len
 frame_len-dominant u k =
@@ -71,7 +72,7 @@ frame_len-dominant u k =
     ∙ ap (λ t. length_from kind t (levels_at more (r + 3) 4)) (level_at-dominant u k r)
     ∙ ap (length_from kind (level_at u r)) (levels_at-dominant u k (r + 3) 4)
 
--- what is no longer than the length it tells, and not as long, stays within it with one level more
+-- a list that is shorter than the length it determines stays within it with one more level
 pub frame_len-grows : (u : List Level) (x : Level) → length u ≤ frame_len u → length u ≢ frame_len u → length (u ++ x ∷ []) ≤ frame_len (u ++ x ∷ [])
 frame_len-grows u x within partial =
     let other : length u ≢ frame_len u = partial in
@@ -87,7 +88,8 @@ frame_len-grows u x within partial =
       ]
     ]
 
--- what is as long as the length it tells, or longer, tells that length whatever follows
+-- a list that is as long as the length it determines, or longer, determines that length whatever
+-- follows
 pub frame_len-settled : (u w : List Level) → frame_len u ≤ length u → frame_len (u ++ w) ≡ frame_len u
 frame_len-settled u w long = frame_len-append u w (omega (arith, frame_len_least u))
 
@@ -95,7 +97,7 @@ frame_len-settled u w long = frame_len-append u w (omega (arith, frame_len_least
 pub IsComplete-ends : (u x : List Level) → IsComplete u → IsComplete (u ++ x) → x ≡ []
 IsComplete-ends u x h k = nil_from_length x (omega (arith, length-append u x, h.whole, k.whole, frame_len-settled u x (omega (arith, h.whole))))
 
--- and so much is enough: dominant levels complete it
+-- and this is enough: dominant levels complete it
 pub IsComplete-completed : (u : List Level) → level_at u 0 ≡ Dominant → length u ≤ frame_len u → IsComplete (u ++ replicate (frame_len u - length u) Dominant)
 IsComplete-completed u start within =
     let k = frame_len u - length u in

@@ -14,6 +14,6 @@ number_from-upper n k a b size =
     ∙ ap (λ t. t / 2 ^ length b) (number_from-append n a b ∙ number_from-split (number_from n a) b)
     ∙ div-mul-add (number_from n a) (2 ^ length b) (number_from 0 b) below
 
--- the number that some levels spell has those levels, whatever stands before them
+-- the number of some levels has those levels, whatever precedes them
 pub bits_of-number_from : (k n : ℕ) (a : List Level) → length a ≡ k → bits_of k (number_from n a) ≡ a
 bits_of-number_from k n a size = ap (λ m. bits_of m (number_from n a)) (sym size) ∙ levels_back n a

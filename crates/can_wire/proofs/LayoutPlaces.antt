@@ -1,4 +1,4 @@
--- The levels at the places of a list, and what more levels behind it change.
+-- The levels at the places of a list, and what changes when more levels follow.
 use Rattle.std.proofs.Common.{◌≡◌, ℕ, suc, zero, ◌+◌, ◌-◌, ◌<◌, ◌≤◌, List, [], ◌∷◌, ◌++◌, length, drop, replicate, refl, ◌∙◌, ap, arith}
 use Rattle.std.proofs.Math.Seq.{get_or-append_right}
 use Rattle.std.proofs.lemmas.List.{get_or_append_left, drop_more, drop-drop, drop-append-le, length-drop}
@@ -12,20 +12,20 @@ length-filled zero u = refl
 length-filled (suc n) [] = ap suc (length-filled n [])
 length-filled (suc n) (x ∷ u) = ap suc (length-filled n u)
 
--- levels behind a list that is long enough change nothing
+-- levels after a list that is long enough change nothing
 pub filled-append : (n : ℕ) (u w : List Level) → n ≤ length u → filled n (u ++ w) ≡ filled n u
 filled-append zero u w h = refl
 filled-append (suc n) [] w h = absurd (omega arith)
 filled-append (suc n) (x ∷ u) w h = ap (λ t. x ∷ t) (filled-append n u w (omega arith))
 
--- the first n levels are the list of n levels that stands first
+-- the first n levels are the first list if it has n levels
 pub filled_whole : (n : ℕ) (u w : List Level) → length u ≡ n → filled n (u ++ w) ≡ u
 filled_whole zero [] w h = refl
 filled_whole zero (x ∷ u) w h = absurd (omega arith)
 filled_whole (suc n) [] w h = absurd (omega arith)
 filled_whole (suc n) (x ∷ u) w h = ap (λ t. x ∷ t) (filled_whole n u w (omega arith))
 
--- a list is its first n levels, if it has so many, and then the rest
+-- a list is its first n levels, if it has them, and then the rest
 pub filled-drop : (n : ℕ) (u : List Level) → n ≤ length u → u ≡ filled n u ++ drop n u
 filled-drop zero u h = refl
 filled-drop (suc n) [] h = absurd (omega arith)
@@ -36,7 +36,7 @@ filled_past zero k = refl
 filled_past (suc n) zero = refl
 filled_past (suc n) (suc k) = ap (λ t. Dominant ∷ t) (filled_past n k)
 
--- dominant levels behind a list change no place of it: places past its end are dominant already
+-- dominant levels after a list change no place of it: places past its end are dominant already
 pub levels_at-dominant : (u : List Level) (k p n : ℕ) → levels_at (u ++ replicate k Dominant) p n ≡ levels_at u p n
 levels_at-dominant [] k zero n = filled_past n k
 levels_at-dominant [] zero (suc p) n = refl
@@ -57,11 +57,11 @@ level_at-dominant [] (suc k) (suc p) = level_at-dominant [] k p
 level_at-dominant (x ∷ u) k zero = refl
 level_at-dominant (x ∷ u) k (suc p) = level_at-dominant u k p
 
--- levels behind a list change no place before its end
+-- levels after a list change no place before its end
 pub level_at-append : (u w : List Level) (p : ℕ) → p < length u → level_at (u ++ w) p ≡ level_at u p
 level_at-append u w p h = get_or_append_left u w Dominant p h
 
--- behind the end of a list stand the levels that come behind it
+-- after the end of a list come the levels that follow it
 pub level_at-behind : (a b : List Level) (p : ℕ) → length a ≤ p → level_at (a ++ b) p ≡ level_at b (p - length a)
 level_at-behind a b p h = get_or-append_right a b p Dominant h
 

@@ -41,7 +41,7 @@ identifier_back raw range =
 
 module _ (raw : ℕ) (remote : Bool) (dlc : ℕ) (bytes : List ℕ) (srr r1 r0 : Level) (acked : Bool) (last : Level) (c : List Level)
     (dlc_below : dlc < 16) (count : length bytes ≡ byte_count remote dlc) (small : (k : ℕ) → slice_index bytes k < 256) where
-  -- the data bytes, with their number as it is told
+  -- the data bytes, with the number that the DLC gives
   bytes_back : bytes_from (byte_count (is_recessive (level_from remote)) (number_from 0 (bits_of 4 dlc))) (flat_map (bits_of 8) bytes ++ c) ≡ bytes
   bytes_back =
       let told : byte_count (is_recessive (level_from remote)) (number_from 0 (bits_of 4 dlc)) ≡ length bytes =
@@ -76,7 +76,7 @@ heard_of-heard_head h c is = by_kind h.frame.id.extended is.frame.id is.srr is.r
     by_kind false range srr r1 = standard_back f.id.raw f.remote f.dlc f.bytes h.srr h.r1 h.r0 h.acked h.last c is.frame.dlc is.frame.count is.frame.small range (srr refl) (r1 refl)
     by_kind true range srr r1 = extended_back f.id.raw f.remote f.dlc f.bytes h.srr h.r1 h.r0 h.acked h.last c is.frame.dlc is.frame.count is.frame.small range
 
--- levels begin with at most one head, where the ACK slot and the last level are given
+-- levels begin with at most one head, if the ACK slot and the last level are given
 pub heard_head-once : (h g : HeardParts) (c d : List Level) → IsHeard h → IsHeard g → h.acked ≡ g.acked → h.last ≡ g.last → heard_head h ++ c ≡ heard_head g ++ d → h ≡ g
 heard_head-once h g c d h_is g_is acked last same =
     sym (heard_of-heard_head h c h_is)
@@ -85,11 +85,11 @@ heard_head-once h g c d h_is g_is acked last same =
     ∙ ap (heard_of (heard_head g ++ d) g.acked) last
     ∙ heard_of-heard_head g d g_is
 
--- the length that a frame's parts tell
+-- the length that a frame's parts determine
 length_of : Parts → ℕ
 length_of f = data_place f.id.extended + 8 * byte_count f.remote f.dlc + 15
 
--- a head with any fifteen levels behind it is complete
+-- a head followed by any fifteen levels is complete
 pub heard_head-complete : (h : HeardParts) (c : List Level) → IsHeard h → length c ≡ 15 → IsComplete (heard_head h ++ c)
 unfolding frame_len frame_of heard_of length_of
 heard_head-complete h c is fifteen =
@@ -102,11 +102,11 @@ unfolding heard_of
 frame_of-head f c is =
     ap (λ t. frame_of (t ++ c)) (sym (heard_head-sent f)) ∙ ap (λ t. t.frame) (heard_of-heard_head (sent f) c (IsHeard-sent f is))
 
--- the sent head of a frame with any fifteen levels behind it is complete
+-- the head of a frame as sent, followed by any fifteen levels, is complete
 pub head-complete : (f : Parts) (c : List Level) → IsFrame f → length c ≡ 15 → IsComplete (head f ++ c)
 head-complete f c is fifteen = subst (λ t. IsComplete (t ++ c)) (heard_head-sent f) (heard_head-complete (sent f) c (IsHeard-sent f is) fifteen)
 
--- the fifteen levels behind a list are its check sequence
+-- the fifteen levels after a list are its CRC sequence
 pub check_of-append : (a c : List Level) → length c ≡ 15 → check_of (a ++ c) ≡ c
 check_of-append a c fifteen =
     let size : length a ≡ length (a ++ c) - 15 = omega (arith, length-append a c) in

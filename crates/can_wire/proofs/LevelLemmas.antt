@@ -50,7 +50,7 @@ bits_of-shl n k x =
     ap (λ t. bit_at t i) (sym (add-zero (x * 2 ^ k))) ∙ bit_at_cat_low x k 0 i l) in
     bits_of-append n k (x * 2 ^ k) ∙ ap (λ t. bits_of n t ++ bits_of k (x * 2 ^ k)) (shl-shr x k) ∙ ap (λ t. bits_of n x ++ t) (low ∙ bits_of-none k)
 
--- behind the levels that are there stand the n lowest bits of x, of which the highest is put there first
+-- after the levels that are there come the n lowest bits of x, the highest of them first
 pub bits_of-pushed : (items : List Level) (n x : ℕ) → 0 < n → (items ++ level_of (bit_at x (n - 1)) ∷ []) ++ bits_of (n - 1) x ≡ items ++ bits_of n x
 bits_of-pushed items zero x h = absurd (omega arith)
 bits_of-pushed items (suc n) x h =

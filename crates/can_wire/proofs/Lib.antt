@@ -3,13 +3,13 @@
 pub mod DivisionLemmas
 -- stuff places, and how a stuffed list grows at its end
 pub mod StuffPlaces
--- the run that a list ends in, and what it tells of the stuff bit behind it
+-- the run that a list ends in, and what follows from it for the next stuff bit
 pub mod Runs
 -- what `stuffed` computes is the stuffed list, and how long it gets
 pub mod StuffingLemmas
--- the levels at the places of a list, and what more levels behind it change
+-- the levels at the places of a list, and what changes when more levels follow
 pub mod LayoutPlaces
--- the length that a list of levels tells, and its bounds
+-- the frame length that a list of levels determines, and its bounds
 pub mod LayoutLengths
 -- a list of levels has one spelling; how long that of a frame is
 pub mod WireLemmas
@@ -18,10 +18,10 @@ pub mod SpellingLemmas
 -- no spelling begins another
 pub mod SpellingFronts
 -- For this crate.
--- check sequences
+-- CRC sequences
 pub mod XorLemmas
 pub mod Register
--- check sequences in numbers
+-- CRC sequences in numbers
 pub mod LevelLemmas
 pub mod RegisterWord
 pub mod CrcTable

@@ -13,7 +13,7 @@ get_or-first_chunks n (suc k) (suc j) xs d h =
     let e : n + n * j ≡ n * suc j = omega arith in
     get_or-first_chunks n k j (drop n xs) d (omega arith) ∙ ap (take n) (drop-drop (n * j) n xs ∙ ap (λ m. drop m xs) e)
 
--- the levels up to the end of octet i
+-- the levels before the end of octet i
 pub take-octet : (i count : ℕ) (levels : List Level) (octets : List (List Level)) (d : List Level) → octets ≡ first_chunks 8 count levels → i < count
     → take (8 * i) levels ++ get_or octets i d ≡ take (8 * (i + 1)) levels
 take-octet i count levels octets d front h =

@@ -18,7 +18,7 @@ two_values Recessive Dominant Recessive p q = absurd (p refl)
 heads : {x y : Level} {xs ys : List Level} → x ∷ xs ≡ y ∷ ys → (x ≡ y) × (xs ≡ ys)
 heads h = (cc, cc)
 
--- the place behind a front p of b
+-- the place after a front p of b
 place_is : (b p xs : List Level) → b ≡ p ++ xs → is_stuff_place b (length p) ≡ is_due p
 place_is b p xs whole = ap (λ t. is_stuff_place t (length p)) whole ∙ is_stuff_place-append p xs (length p) (omega arith)
 
@@ -40,7 +40,7 @@ bit_differs a b p x xs s whole due =
 longer : (b p : List Level) (x : Level) (xs : List Level) → b ≡ p ++ x ∷ xs → b ≡ (p ++ x ∷ []) ++ xs
 longer b p x xs h = h ∙ sym (append_assoc p (x ∷ []) xs)
 
--- two stuffed lists with one front go on alike where as much is kept of both
+-- two stuffed lists with one front go on alike if the same number of levels is kept of both
 follow : (a b d c p xs ys : List Level) → Stuffs a b → Stuffs d c → b ≡ p ++ xs → c ≡ p ++ ys → kept b (length p) xs ≡ kept c (length p) ys → xs ≡ ys
 follow a b d c p [] [] s t u v h = refl
 follow a b d c p [] (y ∷ ys) s t u v h =

@@ -1,5 +1,5 @@
--- The levels of a number: one more behind them, one at a place, and the number that some spell; and levels that stand
--- in the highest bits of a register.
+-- The levels of a number: one more after them, one at a place, and the number of some of them; and levels in the
+-- highest bits of a register.
 use Rattle.std.proofs.Common.{◌≡◌, ℕ, take, drop, replicate, Bool, true, false, suc, zero, ◌+◌, ◌-◌, ◌*◌, ◌/◌, ◌%◌, ◌^◌, ◌<◌, ◌≤◌, [], ◌∷◌, ◌++◌, ◌⊎◌, inl, inr, nat_eq, refl, sym, ◌∙◌, ap, subst, arith, add-zero}
 use Rattle.std.specs.Int.{bit_at}
 use Rattle.std.proofs.Math.Nat.{div-lt_iff_lt-mul, mod-eq_of_lt, mod-le, mul-lt-mul_of_pos_right}
@@ -25,7 +25,7 @@ byte-small : (level : Level) → bool_byte (is_recessive level) ≤ 1
 byte-small Dominant = omega arith
 byte-small Recessive = omega arith
 
--- a number that moves up by one place takes a level behind those that it has
+-- a number that is shifted by one place takes a level after those that it has
 pub bits_of-next : (n x : ℕ) (level : Level) → bits_of (n + 1) (2 * x + bool_byte (is_recessive level)) ≡ bits_of n x ++ level ∷ []
 bits_of-next n x level =
     let b = bool_byte (is_recessive level) in
@@ -36,7 +36,7 @@ bits_of-next n x level =
     ap (λ m. bits_of m y) up ∙ bits_of-last n y ∙ ap (λ h. bits_of n h ++ level_of (y % 2) ∷ []) half
     ∙ ap (λ l. bits_of n x ++ level_of l ∷ []) low ∙ ap (λ l. bits_of n x ++ l ∷ []) (level_of-byte level)
 
--- it stays within as many bits as it has levels
+-- it needs no more bits than it has levels
 pub next-small : (n x : ℕ) (level : Level) → x < 2 ^ n → 2 * x + bool_byte (is_recessive level) < 2 ^ (n + 1)
 next-small n x level small = omega (arith, byte-small level, pow-add 2 n 1)
 
@@ -44,7 +44,7 @@ pub bool_small : (b : Bool) → bool_byte b ≤ 1
 bool_small true = omega arith
 bool_small false = omega arith
 
--- and that fits a number of 64 bits where there are fewer than 64
+-- and it fits a number of 64 bits if there are fewer than 64
 pub next-fits : (n x : ℕ) → x < 2 ^ n → n < 64 → 2 * x + 1 < 2 ^ 64
 next-fits n x small few = elim (cases_lt (n + 1) 64) [
   | inl fewer ↦ omega (arith, pow_below (n + 1) 64 fewer, pow-add 2 n 1)
@@ -60,7 +60,7 @@ moved-up w k x fits =
     let nothing : x * 2 ^ k % 2 ^ k ≡ 0 = ap (λ t. t % 2 ^ k) (sym (add-zero (x * 2 ^ k))) ∙ mod_low x k 0 (pow_pos k) in
     ap (λ n. x * 2 ^ k % 2 ^ n) width ∙ mod-pow-add (x * 2 ^ k) j k ∙ ap (λ a. a % 2 ^ j * 2 ^ k + x * 2 ^ k % 2 ^ k) (shl-shr x k) ∙ ap (λ r. h * 2 ^ k + r) nothing ∙ add-zero (h * 2 ^ k)
 
--- there is room for a number of k bits below it
+-- there is space for a number of k bits below it
 pub moved-fits : (w k x y : ℕ) → k ≤ w → y < 2 ^ k → x * 2 ^ k % 2 ^ w + y < 2 ^ w
 moved-fits w k x y fits small =
     let j = w - k in
@@ -68,7 +68,7 @@ moved-fits w k x y fits small =
     subst (λ m. m + y < 2 ^ w) (sym (moved-up w k x fits))
     (subst (λ m. x % 2 ^ j * 2 ^ k + y < m) (sym (pow-add 2 k j) ∙ ap (λ n. 2 ^ n) width) (mul-add-lt (x % 2 ^ j) (2 ^ k) y (2 ^ j) (mod_below x (2 ^ j) (pow_pos j)) small))
 
--- and it takes the levels of that number behind those that it has
+-- and it takes the levels of that number after those that it has
 pub bits_of-moved : (w n k x y : ℕ) → n + k ≤ w → y < 2 ^ k → bits_of (n + k) (x * 2 ^ k % 2 ^ w + y) ≡ bits_of n x ++ bits_of k y
 bits_of-moved w n k x y fits small =
     let j = w - k in
@@ -78,7 +78,7 @@ bits_of-moved w n k x y fits small =
     ap (λ m. bits_of (n + k) (m + y)) (moved-up w k x (omega arith)) ∙ bits_of-append n k z ∙ ap (λ t. bits_of n t ++ bits_of k z) (shr_high h k y small)
     ∙ ap (λ t. t ++ bits_of k z) (bits_of-mod n j x (omega arith)) ∙ ap (λ t. bits_of n x ++ t) low
 
--- numbers of n and of k bits, one behind the other, are one of n + k
+-- numbers of n and of k bits, one after the other, are one of n + k
 pub joined-small : (w n k x y : ℕ) → x < 2 ^ n → y < 2 ^ k → n + k ≤ w → x * 2 ^ k % 2 ^ w + y < 2 ^ (n + k)
 joined-small w n k x y few small fits =
     let all : x * 2 ^ k + y < 2 ^ (n + k) = subst (λ m. x * 2 ^ k + y < m) (sym (pow-add 2 k n) ∙ (let turned : k + n ≡ n + k = omega arith in ap (λ e. 2 ^ e) turned)) (mul-add-lt x (2 ^ k) y (2 ^ n) few small) in
@@ -92,14 +92,14 @@ level_from-bit x i = of (bit_at x i) (bit_cases x i)
     of b (inl e) = rw e refl
     of b (inr e) = rw e refl
 
--- the highest bit of a number stands first
+-- the highest bit of a number comes first
 pub level_at-bits_of : (n x p : ℕ) → p < n → level_at (bits_of n x) p ≡ level_of (bit_at x (n - 1 - p))
 unfolding bits_of
 level_at-bits_of zero x p h = absurd (omega arith)
 level_at-bits_of (suc n) x zero h = ap (λ k. level_of (bit_at x k)) (let e : n ≡ suc n - 1 - 0 = omega arith in e)
 level_at-bits_of (suc n) x (suc p) h = level_at-bits_of n x p (omega arith) ∙ ap (λ k. level_of (bit_at x k)) (let e : n - 1 - p ≡ suc n - 1 - suc p = omega arith in e)
 
--- the number that k levels from place p on spell, of which b levels are behind
+-- the number of the k levels from place p on, which b levels follow
 pub number_at-bits_of : (n x p k b : ℕ) → n ≡ p + (k + b) → number_from 0 (levels_at (bits_of n x) p k) ≡ x / 2 ^ b % 2 ^ k
 number_at-bits_of n x p k b size =
     let before = bits_of p (x / 2 ^ (k + b)) in
@@ -126,7 +126,7 @@ above-small n m x size small =
     let power : 2 ^ n * 2 ^ m ≡ 2 ^ 128 = sym (pow-add 2 n m) ∙ ap (λ e. 2 ^ e) size in
     (div-lt_iff_lt-mul (pow_pos m)).1 (omega (arith, small, power))
 
--- where only dominant ones stand below them
+-- if only dominant ones are below them
 above-whole : (m x : ℕ) → bits_of m x ≡ replicate m Dominant → x ≡ x / 2 ^ m * 2 ^ m
 above-whole m x clear =
     let same : number_from 0 (bits_of m x) ≡ number_from 0 (bits_of m 0) = ap (number_from 0) (clear ∙ sym (bits_of-none m)) in
@@ -136,7 +136,7 @@ above-whole m x clear =
 bits_of-clear : (m h : ℕ) → bits_of m (h * 2 ^ m) ≡ replicate m Dominant
 bits_of-clear m h = ap (bits_of m) (sym (add-zero (h * 2 ^ m))) ∙ bits_of-low m h 0 ∙ bits_of-none m
 
--- the k levels of y are put behind the n that x has there, with dominant ones behind them
+-- the k levels of y are appended to the n that x has, followed by dominant ones
 pub record IsPut (n k x y z : ℕ) : Type 0 where
   pub small : z < 2 ^ 128
   pub levels : take (n + k) (bits_of 128 z) ≡ take n (bits_of 128 x) ++ bits_of k y
@@ -197,7 +197,7 @@ module _ (n k x y : ℕ) (fits : n + k ≤ 128) (small : x < 2 ^ 128) (behind : 
         behind = ap (λ t. drop (n + k) (bits_of 128 t)) same ∙ behind-more;
       }
 
--- dominant levels behind a list change none of its places, so those of the register are its places
+-- dominant levels after a list change none of its places, so those of the register are its places
 pub level_at-highest : (n x p : ℕ) → drop n (bits_of 128 x) ≡ replicate (128 - n) Dominant → p < 128 → level_at (take n (bits_of 128 x)) p ≡ level_of (bit_at x (127 - p))
 level_at-highest n x p behind within =
     let top = take n (bits_of 128 x) in
@@ -214,7 +214,7 @@ number_at-highest n x p k behind within =
     ap (number_from 0) (sym (levels_at-dominant top (128 - n) p k) ∙ ap (λ t. levels_at (top ++ t) p k) (sym behind) ∙ ap (λ u. levels_at u p k) (take-append-drop n (bits_of 128 x)))
     ∙ number_at-bits_of 128 x p k b size ∙ ap (λ t. t % 2 ^ k) (sym (shr-shr x 1 (127 - p - k) ∙ ap (λ e. x / 2 ^ e) below))
 
--- the number that they are, without what is behind them
+-- the number that they are, without what follows them
 pub highest-number : (n x : ℕ) → n ≤ 118 → x < 2 ^ 128 → (x / 2 ^ (128 - n) < 2 ^ n) × (bits_of n (x / 2 ^ (128 - n)) ≡ take n (bits_of 128 x))
 highest-number n x few small =
     let size : n + (128 - n) ≡ 128 = omega (arith, few) in

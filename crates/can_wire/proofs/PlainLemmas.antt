@@ -1,4 +1,4 @@
--- Numbers and check sequences read from a list of levels.
+-- Numbers and CRC sequences read from a list of levels.
 use Rattle.std.proofs.Common.{◌≡◌, ℕ, suc, zero, ◌+◌, ◌-◌, ◌*◌, ◌<◌, ◌≤◌, ◌^◌, List, [], ◌∷◌, ◌++◌, length, take, drop, refl, sym, ◌∙◌, ap, subst, arith, length-append}
 use Rattle.std.proofs.lemmas.List.{length-drop, drop-append-le, take-append-le}
 use mir.Val.{bool_byte}
@@ -21,7 +21,7 @@ levels_at-part u p n h =
     let same : n ≡ p + n - p = omega arith in
     filled-take n (drop p u) size ∙ ap (λ k. take k (drop p u)) same
 
--- of fifteen levels the number tells whether they are the check sequence of b
+-- the number of fifteen levels determines whether they are the CRC sequence of b
 module _ (b c : List Level) (n : ℕ) (fifteen : length c ≡ 15) where
   pub IsCrc-from_number : IsCrc b (bits_of 15 n) → number_from 0 c ≡ n → IsCrc b c
   IsCrc-from_number is e = subst (IsCrc b) (ap (bits_of 15) (sym e) ∙ bits_of-number_from 15 0 c fifteen) is
@@ -29,7 +29,7 @@ module _ (b c : List Level) (n : ℕ) (fifteen : length c ≡ 15) where
   pub IsCrc-number : n < 2 ^ 15 → (IsCrc b c → c ≡ bits_of 15 n) → IsCrc b c → number_from 0 c ≡ n
   IsCrc-number small only is = ap (number_from 0) (only is) ∙ number_from-whole 15 n small
 
--- with one level more behind a list, its last fifteen levels begin one place later
+-- with one level appended to a list, its last fifteen levels begin one place later
 pub check_of-further : (u : List Level) (level : Level) → 14 ≤ length u → check_of (u ++ level ∷ []) ≡ drop (length u - 14) u ++ level ∷ []
 check_of-further u level long =
     let place : length (u ++ level ∷ []) - 15 ≡ length u - 14 = omega (arith, length-append u (level ∷ [])) in
@@ -40,7 +40,7 @@ head_of-further u level long =
     let place : length (u ++ level ∷ []) - 15 ≡ length u - 14 = omega (arith, length-append u (level ∷ [])) in
     ap (λ k. take k (u ++ level ∷ [])) place ∙ take-append-le (length u - 14) u (level ∷ []) (omega arith)
 
--- the number of levels and of one more behind them
+-- the number of levels and of one more after them
 number_from-level : (n : ℕ) (level : Level) → number_from n (level ∷ []) ≡ 2 * n + bool_byte (is_recessive level)
 number_from-level n Dominant = omega arith
 number_from-level n Recessive = omega arith

@@ -1,4 +1,4 @@
--- The register of a check sequence: what long division leaves of the levels so far.
+-- The register of a CRC sequence: the remainder of long division of the levels so far.
 use Rattle.std.proofs.Common.{◌≡◌, ℕ, suc, zero, ◌+◌, ◌≤◌, List, [], ◌∷◌, ◌++◌, length, refl, sym, ◌∙◌, ap, arith, append_assoc, length-append}
 use Rattle.std.proofs.lemmas.List.{length-replicate}
 use Rattle.can_frame.specs.declared.level.Level.{Level}
@@ -14,7 +14,7 @@ register r b = reduced (length b) (xor r (b ++ none 15))
 pub register-nil : (r : List Level) → length r ≡ 15 → register r [] ≡ r
 register-nil r h = xor_zeros r 15 (omega arith)
 
--- the register that starts empty ends as the check sequence
+-- the register that starts empty ends as the CRC sequence
 pub register-crc_of : (b : List Level) → register (none 15) b ≡ crc_of b
 unfolding crc_of
 register-crc_of b =
@@ -32,7 +32,7 @@ reduced-add (suc m) n (x ∷ l) =
     let e : suc m + n ≡ suc (m + n) = omega arith in
     ap (λ k. reduced k (x ∷ l)) e ∙ reduced-add m n (xor l (scaled x))
 
--- the register goes on behind b
+-- the register continues after b
 pub register-append : (r b c : List Level) → register r (b ++ c) ≡ register (register r b) c
 register-append r b c =
     let rest = c ++ none 15 in
@@ -44,8 +44,8 @@ register-append r b c =
     ∙ ap (reduced (length c)) (ap (reduced (length b)) parts ∙ reduced-xor (length b) front (none (length b) ++ rest)
     ∙ ap (xor (register r b)) (reduced_none_front (length b) rest long))
 
--- Levels b go into the top of the register: it moves up by as many places, and the check sequence of
--- their sum with its top is added.
+-- Levels b go into the top of the register: it is shifted by their number, and the CRC sequence of their sum
+-- with its top is added.
 pub register-top : (top low b : List Level) → length top ≡ length b → length low + length b ≡ 15 → register (top ++ low) b ≡ xor (low ++ none (length b)) (crc_of (xor top b))
 unfolding crc_of
 register-top top low b h k =
@@ -61,11 +61,11 @@ register-top top low b h k =
     ∙ reduced-xor (length sum) (sum ++ none 15) (none (length sum) ++ moved)
     ∙ ap (xor (crc_of sum)) (reduced_none_front (length sum) moved long) ∙ xor_comm (crc_of sum) moved
 
--- a check sequence goes on as a register
+-- a CRC sequence continues as a register
 pub crc_of-on : (a b : List Level) → crc_of (a ++ b) ≡ register (crc_of a) b
 crc_of-on a b = sym (register-crc_of (a ++ b)) ∙ register-append (none 15) a b ∙ ap (λ r. register r b) (register-crc_of a)
 
--- the check sequence of dominant levels
+-- the CRC sequence of dominant levels
 pub crc_of-none : (k : ℕ) → crc_of (none k) ≡ none 15
 unfolding crc_of
 crc_of-none k = ap (λ n. reduced n (none k ++ none 15)) (length-replicate k Dominant) ∙ reduced_none_front k (none 15) (omega arith)

@@ -22,7 +22,7 @@ bits_of-moved n k r h =
     ap (bits_of 15) (and_mask (x % 2 ^ 16) 15) ∙ bits_of-mod 15 15 (x % 2 ^ 16) (omega arith) ∙ bits_of-mod 15 16 x (omega arith)
     ∙ ap (λ m. bits_of m x) (sym h) ∙ bits_of-shl n k r
 
--- k levels go in: the check sequence of their sum with the k highest bits is added to the moved register
+-- k levels go in: the CRC sequence of their sum with the k highest bits is added to the shifted register
 pub register-moved : (n k r : ℕ) (levels : List Level) → n + k ≡ 15 → length levels ≡ k
     → register (bits_of 15 r) levels ≡ xor (bits_of 15 (moved k r)) (crc_of (xor (bits_of k (r / 2 ^ n)) levels))
 register-moved n k r levels h size =
@@ -35,13 +35,13 @@ register-moved n k r levels h size =
     ∙ register-top top low levels top_size low_size
     ∙ ap (λ t. xor t (crc_of (xor top levels))) (ap (λ m. low ++ none m) size ∙ sym (bits_of-moved n k r h))
 
--- the same with that check sequence as a number
+-- this with the CRC sequence as a number
 pub register-entry : (n k r entry : ℕ) (levels : List Level) → n + k ≡ 15 → length levels ≡ k → bits_of 15 entry ≡ crc_of (xor (bits_of k (r / 2 ^ n)) levels)
     → bits_of 15 (bit_xor (moved k r) entry) ≡ register (bits_of 15 r) levels
 register-entry n k r entry levels h size e =
     bits_of-xor 15 (moved k r) entry ∙ ap (xor (bits_of 15 (moved k r))) e ∙ sym (register-moved n k r levels h size)
 
--- a number has one check sequence, with however many levels it is written
+-- a number has one CRC sequence, with however many levels it is written
 pub crc_of-wider : (n k x : ℕ) → n ≤ k → x < 2 ^ n → crc_of (bits_of k x) ≡ crc_of (bits_of n x)
 crc_of-wider n k x h small =
     let j = k - n in
@@ -61,7 +61,7 @@ pub level_byte-lt : (x : Level) → bool_byte (is_recessive x) < 2 ^ 1
 level_byte-lt Dominant = omega arith
 level_byte-lt Recessive = omega arith
 
--- the check sequence of one bit
+-- the CRC sequence of one bit
 crc_of-bit : (bit : ℕ) → bit ≤ 1 → bits_of 15 (bit * 0x4599) ≡ crc_of (bits_of 1 bit)
 unfolding crc_of bits_of
 crc_of-bit zero h = refl

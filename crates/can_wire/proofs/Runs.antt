@@ -1,4 +1,4 @@
--- The run that a list of levels ends in, and what it tells of the stuff bit behind it.
+-- The run that a list of levels ends in, and what follows from it for the next stuff bit.
 use Rattle.std.proofs.Common.{◌≡◌, ◌≢◌, ℕ, suc, ◌+◌, ◌-◌, ◌<◌, ◌≤◌, true, false, List, [], ◌∷◌, ◌++◌, length, get_or, reverse, refl, sym, ◌∙◌, ap, subst, arith, cond}
 use Rattle.std.proofs.lemmas.List.{reverse-append, get_or-reverse, get_or_default}
 use Rattle.can_frame.specs.declared.level.Level.{Level}

@@ -8,14 +8,14 @@ use Rattle.can_wire.specs.Heard.{HeardParts, heard_head, ack_slot, Spells}
 use Rattle.can_wire.proofs.LayoutRead.{heard_head-once, heard_head-complete}
 use Rattle.can_wire.proofs.StuffedFronts.{Stuffs-once}
 
--- the ACK slot tells whether anyone has acknowledged
+-- the ACK slot shows whether a receiver has acknowledged
 ack_slot-once : (a b : Bool) → ack_slot a ≡ ack_slot b → a ≡ b
 ack_slot-once true true e = refl
 ack_slot-once false false e = refl
 ack_slot-once true false e = cc
 ack_slot-once false true e = cc
 
--- a tail tells its two levels, whatever follows it
+-- a tail determines its two levels, whatever follows it
 tail-once : (a l b m : Level) (x y : List Level) → tail a l ++ x ≡ tail b m ++ y → (a ≡ b) × (l ≡ m)
 tail-once a l b m x y same = (cc, cc)
 

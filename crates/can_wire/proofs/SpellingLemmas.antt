@@ -18,7 +18,7 @@ pub Spells-spelling : (h : HeardParts) → IsHeard h → Spells h (spelling h)
 unfolding spelling
 Spells-spelling h is = record { heard = is; spelling = IsSpelling-spelling_of (heard_head h) (ack_slot h.acked) h.last }
 
--- and nothing else does
+-- and nothing more
 pub Spells-only : (h : HeardParts) (w : List Level) → Spells h w → w ≡ spelling h
 unfolding spelling
 Spells-only h w s = IsSpelling-only (heard_head h) (ack_slot h.acked) h.last w s.spelling
@@ -29,7 +29,7 @@ module _ (h : HeardParts) (is : IsHeard h) where
   unfolding spelling
   length-spelling-le = length-spelling_of-le h.frame.id.extended (heard_head h) (ack_slot h.acked) h.last (length-heard_head-le h is.frame)
 
--- where all is as it should be, the wire is heard
+-- if all levels are as sent, the frame's encoding is received
 pub spelling-sent : (f : Parts) → spelling (sent f) ≡ wire f
 unfolding spelling
 spelling-sent f = ap (λ u. spelling_of u Dominant Recessive) (heard_head-sent f) ∙ sym (wire-spelling_of f)

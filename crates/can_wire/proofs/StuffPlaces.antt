@@ -6,11 +6,11 @@ use Rattle.can_frame.specs.declared.level.Level.{Level}
 use Rattle.can_frame.specs.declared.level.Level.TheVariants.{Dominant}
 use Rattle.can_wire.specs.Stuffing.{begins_with_five, is_stuff_place, kept, Stuffs}
 
--- a stuff bit is due behind b
+-- a stuff bit is due after b
 abbrev pub is_due : List Level → Bool
 is_due b = is_stuff_place b (length b)
 
--- a place depends on what stands before it
+-- a place depends on the levels before it
 pub is_stuff_place-append : (b c : List Level) (p : ℕ) → p ≤ length b → is_stuff_place (b ++ c) p ≡ is_stuff_place b p
 is_stuff_place-append b c p h = ap (λ t. begins_with_five (reverse t)) (take-append-le p b c h)
 
@@ -21,7 +21,7 @@ pub nonempty_from_due : (b : List Level) → is_due b ≡ true → 0 < length b
 nonempty_from_due [] h = cc
 nonempty_from_due (x ∷ b) h = omega arith
 
--- what is kept of levels depends on what stands before the last of them
+-- what is kept of levels depends on those before the last of them
 pub kept-within : (b c xs : List Level) (p : ℕ) → p + length xs ≤ length b + 1 → kept (b ++ c) p xs ≡ kept b p xs
 kept-within b c [] p h = refl
 kept-within b c (x ∷ xs) p h =
@@ -40,7 +40,7 @@ kept-append b (x ∷ xs) ys p =
     out true k l = refl
     out false k l = refl
 
--- b is a with stuff bits, of which one may still be due behind b: `Stuffs` without its last condition
+-- b is a with stuff bits, of which one may still be due after b: `Stuffs` without its last condition
 pub record Inserts (a b : List Level) : Type 0 where
   pub differs : (p : ℕ) → p < length b → is_stuff_place b p ≡ true → get_or b p Dominant ≢ get_or b (p - 1) Dominant
   pub rest : kept b 0 b ≡ a
@@ -54,7 +54,7 @@ Stuffs-from a b h e = record { differs = h.differs; rest = h.rest; end = e }
 pub Inserts-from : (a b : List Level) → Stuffs a b → Inserts a b
 Inserts-from a b h = record { differs = h.differs; rest = h.rest }
 
--- one more level y behind b
+-- one more level y after b
 module _ (a b : List Level) (y : Level) (h : Inserts a b) where
   size : length (b ++ y ∷ []) ≡ length b + 1
   size = length-append b (y ∷ [])
@@ -78,7 +78,7 @@ module _ (a b : List Level) (y : Level) (h : Inserts a b) where
       let there = get_or_append_left b (y ∷ []) Dominant (length b - 1) (omega arith) in
       λ q. other due (sym here ∙ q ∙ there)
 
-  -- it is kept where no stuff bit is due; where one is due it has to differ from the level before it
+  -- it is kept if no stuff bit is due; if one is due it has to differ from the level before it
   pub Inserts-push : (is_due b ≡ true → y ≢ get_or b (length b - 1) Dominant) → Inserts (a ++ cond (is_due b) [] (y ∷ [])) (b ++ y ∷ [])
   Inserts-push other = record {
     differs = λ p l e. elim (cases_lt p (length b)) [

@@ -22,7 +22,7 @@ use Rattle.can_wire.proofs.LayoutPlaces.{length-filled, next_levels}
 use Rattle.can_wire.proofs.Runs.{run_after-le, run_after-ge}
 use Rattle.can_wire.proofs.StuffingLemmas.{stuffed_from-plain, stuffed_from-due}
 
--- ---- what stands behind the levels xs
+-- ---- what follows the levels xs
 
 last_behind-plain : (last : Level) (run : ℕ) (x : Level) (xs : List Level) → run_after last run x ≢ 5 → last_behind last run (x ∷ xs) ≡ last_behind x (run_after last run x) xs
 last_behind-plain last run x xs h =
@@ -249,7 +249,7 @@ take-eight u p h =
 pub eight-small : (u : List Level) (p : ℕ) → number_from 0 (levels_at u p 8) < 256
 eight-small u p = omega (arith, number_from-lt (levels_at u p 8), ap (λ n. 2 ^ n) (length-filled 8 (drop p u)))
 
--- ---- levels that are put behind others
+-- ---- levels that are written after others
 
 -- of ten levels that were put at a place, the first n count
 pub taken-step : (new old ten : List Level) (place n : ℕ) → take (place + 10) new ≡ take place old ++ ten → n ≤ 10 → length (take place old) ≡ place

@@ -20,7 +20,7 @@ fronts (p ∷ b) (q ∷ d) x y same =
       | inr shorter ↦ inr (shorter.0, let e = shorter.1 in cc)
     ]
 
--- a stuffed list that goes on behind another is that of a list that goes on: behind the first no stuff bit is due
+-- if a stuffed list continues another, its list continues the other's: no stuff bit is due after the first
 pub Stuffs-goes_on : (u v b : List Level) (y : Level) (t : List Level) → Stuffs u b → Stuffs v (b ++ y ∷ t) → (w : List Level) × (v ≡ u ++ y ∷ w)
 Stuffs-goes_on u v b y t s r =
     let more = b ++ y ∷ t in

@@ -103,8 +103,8 @@ length-stuffed a = let r = Stuffed-more a [] [] Dominant 0 (Stuffed-nil Dominant
 pub stuffed-only : (a b : List Level) → Stuffs a b → b ≡ stuffed a
 stuffed-only a b s = Stuffs-only a b (stuffed a) s (Stuffs-stuffed a)
 
--- While levels are left, the list that is being written has room for one more level,
--- and for two where a stuff bit is due behind the next.
+-- While levels are left, the list that is being written has space for one more level, and for two
+-- if a stuff bit is due after the next.
 module _ (out old levels : List Level) (last : Level) (run i room : ℕ) (whole : out ++ stuffed_from last run (drop i levels) ≡ old ++ stuffed levels) (fits : length old + length (stuffed levels) ≤ room) (left : i < length levels) where
   abbrev x : Level
   x = get_or levels i Dominant

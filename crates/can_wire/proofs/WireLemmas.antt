@@ -11,7 +11,7 @@ use Rattle.can_wire.proofs.DivisionLemmas.{length-crc_of, IsCrc-crc_of, IsCrc-on
 use Rattle.can_wire.proofs.StuffingLemmas.{length-stuffed, Stuffs-stuffed, stuffed-only}
 use Rattle.can_wire.proofs.LayoutHead.{heard_head-sent, length-heard_head-le}
 
--- u with its check sequence, stuffed
+-- u with its CRC sequence, stuffed
 abbrev pub stuffed_with_check : List Level → List Level
 stuffed_with_check u = stuffed (u ++ crc_of u)
 
@@ -29,7 +29,7 @@ IsSpelling-spelling_of u ack last = record {
   whole = refl;
 }
 
--- and nothing else does
+-- and nothing more
 pub IsSpelling-only : (u : List Level) (ack last : Level) (w : List Level) → IsSpelling u ack last w → w ≡ spelling_of u ack last
 IsSpelling-only u ack last w s =
     let check : s.check ≡ crc_of u = IsCrc-only u s.check s.is_check in

@@ -1,4 +1,4 @@
--- The levels before the data of a frame as it is sent. (Bosch CAN 2.0 part B, section 3.2.1)
+-- The levels before the data of a frame as it is transmitted. (Bosch CAN 2.0 part B, section 3.2.1)
 use Rattle.std.specs.Prelude.{List, ◌∷◌, ◌++◌}
 use Rattle.can_frame.specs.declared.level.Level.{Level}
 use Rattle.can_frame.specs.declared.level.Level.TheVariants.{Dominant}
@@ -11,6 +11,6 @@ use Rattle.can_wire.specs.Wire.{reserved}
 unfoldable pub header_of : Parts → List Level
 header_of f = Dominant ∷ (arbitration_field f ++ (reserved f ++ bits_of 4 f.dlc))
 
--- RTR, two dominant levels and the data length code, with which it ends in either format
+-- its last levels, in either format: RTR, two dominant levels and the data length code
 abbrev pub control_of : Parts → List Level
 control_of f = level_from f.remote ∷ Dominant ∷ Dominant ∷ bits_of 4 f.dlc

@@ -1,11 +1,11 @@
--- The layout of a frame: what the places of its unstuffed levels tell of its length and its parts.
--- (Bosch CAN 2.0 part B, section 3.2.1)
+-- The layout of a frame: how the unstuffed levels determine its length and its parts. (Bosch CAN 2.0 part B,
+-- section 3.2.1)
 --
---     place       0     1..11        12    13    14    15..18
---     standard    SOF   identifier   RTR   IDE   r0    data length code, then data and check sequence
+--     place    0    1..11        12    13    14   15..18
+--     standard SOF  identifier   RTR   IDE   r0   data length code, then data and CRC sequence
 --
---     place       0     1..11        12    13    14..31       32    33   34   35..38
---     extended    SOF   identifier   SRR   IDE   identifier   RTR   r1   r0   data length code, then the same
+--     place    0    1..11        12    13    14..31       32    33   34   35..38
+--     extended SOF  identifier   SRR   IDE   identifier   RTR   r1   r0   data length code, then data and CRC sequence
 use Rattle.std.specs.Prelude.{ℕ, zero, suc, ◌≡◌, ◌+◌, ◌-◌, ◌*◌, Bool, if◌then◌else◌, List, [], ◌∷◌, ◌++◌, length, take, drop, slice_index_or}
 use Rattle.can_frame.specs.declared.level.Level.{Level}
 use Rattle.can_frame.specs.declared.level.Level.TheVariants.{Dominant, Recessive}
@@ -32,11 +32,11 @@ levels_at u p n = filled n (drop p u)
 abbrev pub extended_of : List Level → Bool
 extended_of u = is_recessive (level_at u 13)
 
--- where the RTR bit stands
+-- the place of the RTR bit
 abbrev pub rtr_place : Bool → ℕ
 rtr_place extended = if extended then 32 else 12
 
--- where the data begins: behind the RTR bit come two bits more, and four of the data length code
+-- the place of the data: after the RTR bit, two more bits and the four of the data length code
 abbrev pub data_place : Bool → ℕ
 data_place extended = rtr_place extended + 7
 
@@ -48,21 +48,21 @@ remote_of u = is_recessive (level_at u (rtr_place (extended_of u)))
 abbrev pub dlc_of : List Level → ℕ
 dlc_of u = number_from 0 (levels_at u (rtr_place (extended_of u) + 3) 4)
 
--- how many unstuffed levels, check sequence included, the frame has that begins with u
+-- how many unstuffed levels, CRC sequence included, the frame that begins with u has
 unfoldable pub frame_len : List Level → ℕ
 frame_len u = data_place (extended_of u) + 8 * byte_count (remote_of u) (dlc_of u) + 15
 
--- u is all of the unstuffed levels of a frame, from the start of frame to the end of the check sequence
+-- u is all unstuffed levels of a frame, from the start of frame to the end of the CRC sequence
 pub record IsComplete (u : List Level) : Type 0 where
   pub start : level_at u 0 ≡ Dominant
   pub whole : length u ≡ frame_len u
 
--- b is a complete stuffed part, and u its unstuffed levels
+-- b is a complete stuffed part, and u its levels without stuff bits
 pub record IsPart (u b : List Level) : Type 0 where
   pub complete : IsComplete u
   pub stuffs : Stuffs u b
 
--- the identifier's levels: behind the SOF, and in an extended frame behind the IDE bit too
+-- the identifier's levels: after the SOF, and in an extended frame also after the IDE bit
 abbrev pub identifier_of : List Level → List Level
 identifier_of u = if extended_of u then levels_at u 1 11 ++ levels_at u 14 18 else levels_at u 1 11
 
@@ -80,7 +80,7 @@ frame_of u = record {
   bytes = bytes_from (byte_count (remote_of u) (dlc_of u)) (drop (data_place (extended_of u)) u);
 }
 
--- what is heard where the unstuffed levels are u; a standard frame has no SRR and no r1 of its own
+-- the frame as received whose unstuffed levels are u; a standard frame has no SRR and no r1
 unfoldable pub heard_of : List Level → Bool → Level → HeardParts
 heard_of u acked last = record {
   frame = frame_of u;
@@ -91,10 +91,10 @@ heard_of u acked last = record {
   last = last;
 }
 
--- the check sequence: the last fifteen levels
+-- the CRC sequence: the last fifteen levels
 abbrev pub check_of : List Level → List Level
 check_of u = drop (length u - 15) u
 
--- the levels before the check sequence
+-- the levels before the CRC sequence
 abbrev pub head_of : List Level → List Level
 head_of u = take (length u - 15) u

@@ -1,4 +1,4 @@
--- Levels in the highest bits of a register of 128 bits, with dominant ones behind them: their count and the register.
+-- Levels in the highest bits of a register of 128 bits, followed by dominant ones: their count and the register.
 use Rattle.std.specs.Prelude.{◌≡◌, ℕ, ◌-◌, ◌^◌, ◌<◌, ◌≤◌, ◌++◌, length, take, drop, replicate}
 use Rattle.std.proofs.Common.{sym, ◌∙◌, ap, arith}
 use Rattle.std.proofs.lemmas.List.{length-take-le, take-append-drop}

@@ -4,8 +4,8 @@ use crate::two_words::TwoWords;
 use can_frame::Level;
 use std::marker::Model;
 
-/// The unstuffed levels of a frame in a register, the last of them its lowest bit, and their running CRC sequence. A
-/// level that comes moves both up by one place, so that the end of a frame is no more work than a level of it.
+/// The unstuffed levels of a frame in a register, the last level as its lowest bit, with their running CRC sequence.
+/// Each new level shifts both by one place, so the end of a frame costs no more than any other level.
 #[derive(Debug, Drop)]
 pub struct CheckedBits {
     register: TwoWords,
@@ -77,8 +77,7 @@ impl FrameBits for CheckedBits {
         self.run.value()
     }
 
-    /// Levels that end with the CRC sequence of those before it have 0 as their own: the generator
-    /// divides them as they stand.
+    /// Levels that end with their own CRC sequence have the CRC sequence 0: the generator divides them.
     #[inline]
     fn check_agrees(&self) -> bool {
         self.run.value() == 0

@@ -1,4 +1,4 @@
-//! Levels as numbers, for callers that aren't Rust.
+//! Levels as numbers, for callers in other languages than Rust.
 ghost use Rattle.std.specs.Prelude.{◌≡◌, ◌≤◌, false, true, drop, length, map, take, MatchOption};
 ghost use Rattle.can_frame.specs.Levels.{are_level_codes, level_code, levels_of_codes};
 
@@ -6,7 +6,8 @@ use crate::stuff_steps::LONGEST_WIRE;
 use arrayvec::ArrayVec;
 use can_frame::Level;
 
-/// The levels of the first 157 numbers, as no frame has more; none where one of these is no level's.
+/// Returns the levels of the first 157 numbers (no frame has more), or `None` if one of these is
+/// neither 0 nor 1.
 pub fn front_of_codes(codes: &[u8]) -> Option<ArrayVec<Level, 157>>
     ensures { MatchOption result (are_level_codes (take 157 codes.now) ≡ false)
         (λ levels. (are_level_codes (take 157 codes.now) ≡ true) × (levels.items ≡ levels_of_codes (take 157 codes.now))) }
@@ -31,7 +32,7 @@ fn levels_in(codes: &[u8]) -> ArrayVec<Level, 157>
     levels
 }
 
-/// Writes the numbers of levels in front of what stands there.
+/// Writes the numbers of levels to the front of `codes`, and leaves what follows unchanged.
 pub fn write_codes(levels: &[Level], codes: &mut [u8])
     requires { length levels.now ≤ length codes.old }
     ensures front { take (length levels.now) codes.new ≡ map level_code levels.now }

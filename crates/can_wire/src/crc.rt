@@ -6,9 +6,9 @@ ghost use Rattle.can_wire.specs.Crc.{IsCrc, crc_of};
 use crate::crc_run::CrcRun;
 use can_frame::Level;
 
-/// The CRC sequence of the levels: the fifteen bits that, put behind them, make a list that the
-/// generator polynomial divides. Bit 14 of the result is sent first. (Bosch CAN 2.0 part B,
-/// section 3.2.1)
+/// Returns the CRC sequence of the levels. It is the fifteen bits that, appended to the levels,
+/// make a list that the generator polynomial divides. Bit 14 of the result is sent first. (Bosch
+/// CAN 2.0 part B, section 3.2.1)
 pub fn crc15(levels: &[Level]) -> u16
     ensures range { result < 2 ^ 15 }
     ensures divides { IsCrc levels.now (bits_of 15 result) }

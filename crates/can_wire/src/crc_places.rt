@@ -1,4 +1,4 @@
-//! The CRC sequence of a number's levels by its bytes, each with what it adds at its place. (Bosch CAN 2.0 part B,
+//! The CRC sequence of a number's levels, as the sum of what each byte adds at its place. (Bosch CAN 2.0 part B,
 //! section 3.2.1)
 ghost use Rattle.std.specs.Prelude.{◌≡◌, ◌^◌, ◌<◌};
 ghost use Rattle.can_frame.specs.Levels.{bits_of};
@@ -6,14 +6,14 @@ ghost use Rattle.can_wire.specs.Crc.{crc_of};
 
 use crate::crc_table::CRC_OF_PLACES;
 
-/// How many bytes a number has at most.
+/// The maximum number of bytes.
 const PLACES: usize = 15;
 
-/// How many entries the table has for a place.
+/// The number of table entries for a place.
 const BYTES: usize = 256;
 
-/// The CRC sequence of the levels of a number, as a number of fifteen bits. Dominant levels in front change nothing,
-/// so it is that of a number of fewer levels too.
+/// The CRC sequence of the levels of a number, as a number of fifteen bits. Leading dominant levels do not change
+/// it, so the number may have fewer levels.
 pub(crate) fn crc_of_number(number: u128) -> u16
     requires { number < 2 ^ 120 }
     ensures range { result < 2 ^ 15 }

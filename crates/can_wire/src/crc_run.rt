@@ -14,10 +14,10 @@ const LOWER_TERMS: u16 = 0x4599;
 /// The fifteen bits of the shift register.
 const REGISTER_BITS: u16 = 0x7fff;
 
-/// How many levels one step takes, at most.
+/// The maximum number of levels that one step takes.
 const OCTET: usize = 8;
 
-/// The CRC sequence of levels that come one by one: the shift register of Bosch CAN 2.0 part B,
+/// The CRC sequence of levels that arrive one by one: the shift register of Bosch CAN 2.0 part B,
 /// section 3.2.1.
 #[derive(Clone, Copy, Debug)]
 pub struct CrcRun {
@@ -37,7 +37,7 @@ impl Model for CrcRun {
 }
 
 impl CrcRun {
-    /// The CRC sequence of no level.
+    /// Returns the CRC sequence of no levels.
     #[inline]
     pub fn new() -> CrcRun
         ensures range { result < 2 ^ 15 }
@@ -46,8 +46,8 @@ impl CrcRun {
         CrcRun { register: 0 }
     }
 
-    /// Takes one level more: of whatever levels this was the CRC sequence, it becomes that of these
-    /// with the level behind them.
+    /// Takes one more level: the CRC sequence of any levels becomes that of these levels followed
+    /// by `level`.
     #[inline]
     pub fn push(&mut self, level: Level)
         ensures range { self.new < 2 ^ 15 }
@@ -56,7 +56,7 @@ impl CrcRun {
         self.register = shift_in(self.register, level);
     }
 
-    /// Takes eight levels more.
+    /// Takes eight more levels.
     pub(crate) fn push_octet(&mut self, octet: &[Level; 8])
         ensures range { self.new < 2 ^ 15 }
         ensures check { (levels : List Bit) → IsCrc levels (bits_of 15 self.old) → IsCrc (levels ++ octet.now) (bits_of 15 self.new) }
@@ -110,7 +110,7 @@ fn shift_in_bits(register: u16, number: u64, count: usize) -> u16
     shifted
 }
 
-/// The register after the levels of a number of so many bits, eight at most.
+/// The register after the levels of a number of `count` bits, at most eight.
 #[inline]
 fn shift_in_few(register: u16, number: u16, count: usize) -> u16
     requires register { register < 2 ^ 15 }
@@ -147,7 +147,7 @@ fn shift_in(register: u16, level: Level) -> u16
     shifted ^ (fed * LOWER_TERMS)
 }
 
-/// What is fed back as a level comes: the sum of the register's highest bit and the level.
+/// The feedback bit for a level: the sum of the register's highest bit and the level.
 #[inline]
 fn feedback(register: u16, level: Level) -> u16
     requires { register < 2 ^ 15 }

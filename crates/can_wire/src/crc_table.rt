@@ -1,7 +1,7 @@
 //! What each byte adds to a CRC sequence at each place. (Bosch CAN 2.0 part B, section 3.2.1)
 
-/// The CRC sequence of the eight bits of each byte and of so many dominant levels behind them as lower bytes have bits:
-/// a row of 256 for each place, the lowest first. The first row is that of the bytes alone.
+/// The CRC sequence of each byte at each place: of its eight bits, followed by one dominant level for each bit of the
+/// lower bytes. Each place has 256 entries, the lowest place first. The first 256 entries are for the bytes alone.
 pub(crate) static CRC_OF_PLACES: [u16; 3840] = [
     0x0000, 0x4599, 0x4eab, 0x0b32, 0x58cf, 0x1d56, 0x1664, 0x53fd, 0x7407, 0x319e, 0x3aac, 0x7f35,
     0x2cc8, 0x6951, 0x6263, 0x27fa, 0x2d97, 0x680e, 0x633c, 0x26a5, 0x7558, 0x30c1, 0x3bf3, 0x7e6a,

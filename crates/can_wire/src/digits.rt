@@ -1,5 +1,5 @@
-//! The digits of the levels that the sender of a frame drives, eight levels in a step. (Bosch CAN 2.0 part B, sections
-//! 3.2.1 and 6)
+//! The digits of the levels that the transmitter of a frame drives, eight levels a step. (Bosch CAN 2.0 part B,
+//! sections 3.2.1 and 6)
 
 mod tables;
 
@@ -16,21 +16,21 @@ use crate::stuff_steps::{LONGEST_WIRE, MOST_STEPPED, STEP_LEVELS, row_of, stuff_
 use can_frame::{Frame, Level};
 use tables::{OCTET_DIGITS, PAIR_DIGITS};
 
-/// How many bytes [`driven_digits`] writes into: as many as the longest frame and the levels before it take.
+/// The number of bytes that [`driven_digits`] writes into: enough for the longest frame and the levels before it.
 pub const DIGITS_ROOM: usize = 168;
 
-/// How many digits of ten levels a lookup gives first.
+/// The number of digits that the first of two lookups gives.
 const OCTET: usize = 8;
 
-/// Levels of which the lowest fill up a number of levels to whole bytes, in front of the start of frame. No two neighbours
-/// among them are equal, and the last differs from the start of frame, so that they make no stuff bit due.
+/// Levels before the start of frame that fill up a number of levels to whole bytes. Its lowest bits are used. No two
+/// neighbouring ones are equal, and the last differs from the start of frame, so they cause no stuff bit.
 const FILLING: u128 = 0b101_0101;
 
-/// The digits of what stands behind the stuffed part: CRC delimiter, ACK slot, ACK delimiter and end of frame.
+/// The digits after the stuffed part: CRC delimiter, ACK slot, ACK delimiter and end of frame.
 const TAIL: [u8; 10] = *b"1111111111";
 
-/// Writes the digits of the levels that the sender of a frame drives, and answers where they begin and where they end. What
-/// stands before and behind them has no meaning.
+/// Writes the digits of the levels that the transmitter of a frame drives. Returns their start and end in the array.
+/// The bytes before the start and from the end on have no meaning.
 pub fn driven_digits(frame: &Frame, digits: &mut [u8; DIGITS_ROOM]) -> (usize, usize)
     ensures digits { slice_range digits.new result.0 result.1 ≡ map digit_of (driven frame.now) }
     ensures order { result.0 ≤ result.1 }
@@ -45,17 +45,17 @@ pub fn driven_digits(frame: &Frame, digits: &mut [u8; DIGITS_ROOM]) -> (usize, u
     (filling, end + TAIL.len())
 }
 
-/// How far digits have been put.
+/// How many digits have been written.
 #[derive(Clone, Copy)]
 struct DigitRun {
-    /// How many there are.
+    /// Their number.
     len: usize,
-    /// The row of the table of steps for what comes behind them.
+    /// The row of the step table for the next levels.
     row: u16,
 }
 
-/// Puts the digits of the lowest bytes of a number, the highest bit first, with stuff bits as they are behind a recessive
-/// level, and answers how many they are.
+/// Writes the digits of the lowest bytes of a number, the highest bit first, and returns how many. The stuff bits are
+/// those after a recessive level.
 fn put_stuffed(digits: &mut [u8; DIGITS_ROOM], number: u128, octets: usize) -> usize
     requires { octets ≤ 15 }
     ensures digits { take result digits.new ≡ map digit_of (stuffed_from Recessive 1 (bits_of (8 * octets) number)) }
@@ -74,7 +74,7 @@ fn put_stuffed(digits: &mut [u8; DIGITS_ROOM], number: u128, octets: usize) -> u
     now.len
 }
 
-/// Puts the digits of the eight levels of a byte more, with their stuff bits.
+/// Writes the digits of the eight levels of another byte, with their stuff bits.
 #[inline]
 fn put_octet(digits: &mut [u8; DIGITS_ROOM], before: DigitRun, octet: u8) -> DigitRun
     requires small { before.row < 8 }
@@ -89,7 +89,7 @@ fn put_octet(digits: &mut [u8; DIGITS_ROOM], before: DigitRun, octet: u8) -> Dig
     }
 }
 
-/// Puts the digits of a number's ten bits from a place on, the highest first.
+/// Writes the digits of a number's ten bits from a place on, the highest first.
 #[inline]
 fn put_ten(digits: &mut [u8; DIGITS_ROOM], place: usize, number: u16)
     requires room { place + MOST_STEPPED ≤ DIGITS_ROOM }
@@ -110,7 +110,7 @@ fn octet_digits(number: u16) -> [u8; OCTET]
     OCTET_DIGITS[usize::from(number)]
 }
 
-/// The same of two bits.
+/// The digits of a number's two bits, the highest first.
 #[inline]
 fn pair_digits(number: u16) -> [u8; 2]
     requires { number < 2 ^ 2 }

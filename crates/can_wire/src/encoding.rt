@@ -9,14 +9,14 @@ use crate::stuff_steps::LONGEST_WIRE;
 use arrayvec::ArrayVec;
 use can_frame::{Frame, Level};
 
-/// The levels of a frame as its sender drives them, one for each bit time, from the start of
-/// frame to the end of frame. (Bosch CAN 2.0 part B, section 3.2.1)
+/// Returns the levels that the transmitter of a frame drives, one for each bit time. They begin with
+/// the start of frame and end with the end of frame. (Bosch CAN 2.0 part B, section 3.2.1)
 pub fn encode(frame: &Frame) -> ArrayVec<Level, 157>
     ensures levels { result.items ≡ driven frame.now }
     ensures spelled { IsSpelling (head frame.now) Recessive Recessive result.items }
     ensures only { (w : List Bit) → IsSpelling (head frame.now) Recessive Recessive w → w ≡ result.items }
 
-    // How long the parts can get.
+    // The maximum lengths of the parts.
     ensures head_bound { length (head frame.now) ≤ (if frame.now.id.extended then 103 else 83) }
     ensures stuffed_bound { length (stuffed_part frame.now) ≤ (if frame.now.id.extended then 147 else 122) }
     ensures wire_bound { length (wire frame.now) ≤ (if frame.now.id.extended then 157 else 132) }
@@ -24,8 +24,7 @@ pub fn encode(frame: &Frame) -> ArrayVec<Level, 157>
     respell(&Heard::unacknowledged(*frame))
 }
 
-/// Puts the levels that [`encode`] gives into the front of an array, and answers how many they are: for
-/// callers that want no list of them.
+/// Writes the levels of [`encode`] to the front of an array, and returns how many there are.
 pub fn encode_into(frame: &Frame, levels: &mut [Level; LONGEST_WIRE]) -> usize
     ensures levels { take result levels.new ≡ driven frame.now }
     ensures bound { result ≤ LONGEST_WIRE }

@@ -10,7 +10,8 @@ use can_frame::Level;
 /// The start of frame (SOF).
 pub(crate) const START_OF_FRAME: Level = Level::Dominant;
 
-/// The unstuffed levels of a frame that have been heard or laid out so far, the start of frame first.
+/// The unstuffed levels of a frame that have been received or laid out so far, the start of frame
+/// first.
 pub trait FrameBits: Drop {
     /// The levels.
     ghost levels: { Self → List Bit };
@@ -31,7 +32,7 @@ pub trait FrameBits: Drop {
         requires small { number < 2 ^ count }
         ensures { levels self.new ≡ levels self.old ++ bits_of count number };
 
-    /// How many levels there are.
+    /// The number of levels.
     fn len(&self) -> usize
         ensures { result ≡ length (levels self.now) };
 
@@ -40,13 +41,13 @@ pub trait FrameBits: Drop {
         requires { place < length (levels self.now) }
         ensures { result ≡ level_at (levels self.now) place };
 
-    /// The number that `count` levels from `place` on spell, the highest bit first.
+    /// Returns the number whose bits are the `count` levels from `place` on, the highest bit first.
     fn number_at(&self, place: usize, count: usize) -> u64
         requires within { place + count ≤ length (levels self.now) }
         requires width { count ≤ 64 }
         ensures { result ≡ number_from 0 (levels_at (levels self.now) place count) };
 
-    /// Their CRC sequence, as a number of fifteen bits. Bit 14 is sent first.
+    /// Returns the CRC sequence of the levels, as a number of fifteen bits. Bit 14 is sent first.
     fn check(&self) -> u16
         ensures range { result < 2 ^ 15 }
         ensures computed { bits_of 15 result ≡ crc_of (levels self.now) };
@@ -56,7 +57,7 @@ pub trait FrameBits: Drop {
         requires { 15 ≤ length (levels self.now) }
         ensures { IsTrue result ↔ IsCrc (head_of (levels self.now)) (check_of (levels self.now)) };
 
-    /// The same with one level more behind them.
+    /// Whether the last fifteen levels, `level` appended, are the CRC sequence of those before them.
     fn agrees_with(&self, level: Level) -> bool
         requires { 14 ≤ length (levels self.now) }
         ensures { let more = levels self.now ++ level ∷ [] in IsTrue result ↔ IsCrc (head_of more) (check_of more) };

@@ -1,4 +1,5 @@
-//! The unstuffed levels of a frame as it is sent, as the bits of a number. (Bosch CAN 2.0 part B, section 3.2.1)
+//! The unstuffed levels of a frame as it is transmitted, as the bits of a number. (Bosch CAN 2.0 part B, section
+//! 3.2.1)
 ghost use Rattle.std.specs.Prelude.{◌≡◌, ◌+◌, ◌*◌, ◌^◌, ◌<◌, ◌≤◌, ◌++◌, length, true, false};
 ghost use Rattle.std.specs.List.{flat_map};
 ghost use Rattle.can_frame.specs.Levels.{bits_of};
@@ -10,20 +11,20 @@ use crate::crc_places::crc_of_number;
 use crate::places::{CHECK_BITS, EXTENSION_BITS};
 use can_frame::Frame;
 
-/// How many levels stand before the data of a standard frame.
+/// The number of levels before the data of a standard frame.
 const STANDARD_HEADER: usize = 19;
 
-/// How many levels stand before the data of an extended frame.
+/// The number of levels before the data of an extended frame.
 const EXTENDED_HEADER: usize = 39;
 
-/// SRR and IDE as an extended frame sends them: two recessive levels.
+/// SRR and IDE as the transmitter of an extended frame sends them: two recessive levels.
 const EXTENDED_FORMAT: u64 = 0b11;
 
-/// Levels as the lowest bits of a number that has no others, the first of them the highest.
+/// Levels as the lowest bits of a number that has no others, the first level highest.
 #[derive(Clone, Copy)]
 pub(crate) struct FrameNumber {
     pub(crate) number: u128,
-    /// How many they are.
+    /// The number of levels.
     pub(crate) count: usize,
 }
 
@@ -31,7 +32,7 @@ pub(crate) struct FrameNumber {
 #[derive(Clone, Copy)]
 struct Header {
     number: u64,
-    /// How many they are.
+    /// The number of levels.
     count: usize,
 }
 
@@ -71,7 +72,7 @@ fn header_number(frame: &Frame) -> Header
     }
 }
 
-/// Those of a standard frame.
+/// The levels before the data of a standard frame.
 #[inline]
 fn standard_header(frame: &Frame) -> u64
     requires { frame.now.id.extended ≡ false }
@@ -81,7 +82,7 @@ fn standard_header(frame: &Frame) -> u64
     (u64::from(frame.id().raw()) << 7) + control(frame)
 }
 
-/// Those of an extended frame.
+/// The levels before the data of an extended frame.
 #[inline]
 fn extended_header(frame: &Frame) -> u64
     requires { frame.now.id.extended ≡ true }
@@ -94,7 +95,7 @@ fn extended_header(frame: &Frame) -> u64
     (identifier << 7) + control(frame)
 }
 
-/// The seven levels before the data: RTR, two dominant levels and the data length code.
+/// The last seven levels before the data: RTR, two dominant levels and the DLC.
 #[inline]
 fn control(frame: &Frame) -> u64
     ensures levels { bits_of 7 result ≡ control_of frame.now }
@@ -103,13 +104,13 @@ fn control(frame: &Frame) -> u64
     (u64::from(frame.is_remote()) << 6) + u64::from(frame.dlc())
 }
 
-/// The data bytes as one number, the first of them the highest.
+/// The data bytes as one number, the first of them highest.
 #[inline]
 fn data_number(frame: &Frame) -> u64
     ensures levels { bits_of (8 * length frame.now.bytes) result ≡ flat_map (bits_of 8) frame.now.bytes }
     ensures small { result < 2 ^ (8 * length frame.now.bytes) }
 {
-    // in two halves, since the whole may be by 64 places
+    // two shifts, since the whole shift may be by 64 bits
     let half = 4 * (8 - frame.bytes().len());
     (u64::from_be_bytes(frame.octets()) >> half) >> half
 }

@@ -16,11 +16,12 @@ pub(crate) const RESERVED: Level = Level::Dominant;
 /// Each of the seven levels of the end of frame as it is sent.
 pub(crate) const END_OF_FRAME: Level = Level::Recessive;
 
-/// A frame as it is heard on the bus: the frame itself, and the levels that a receiver takes at
-/// either value. (Bosch CAN 2.0 part B, sections 3.2.1 and 5)
+/// A frame as received: the frame itself, and the levels that a receiver accepts at either value.
+/// (Bosch CAN 2.0 part B, sections 3.2.1 and 5)
 ///
-/// A standard frame has no SRR and no r1: they count as recessive and dominant, as they would be
-/// sent. Two are equal exactly when all their getters agree.
+/// A standard frame has no SRR and no r1. They count as recessive and dominant, the values that
+/// they are sent with in an extended frame. Two values are equal exactly if all their getters
+/// agree.
 #[derive(Clone, Copy, Debug)]
 pub struct Heard {
     frame: Frame,
@@ -68,8 +69,8 @@ impl Eq for Heard {
 }
 
 impl Heard {
-    /// What is heard with these parts. `None` where a standard frame would have a dominant SRR or
-    /// a recessive r1.
+    /// Returns the frame as received with these parts. `None` if a standard frame would have a
+    /// dominant SRR or a recessive r1.
     pub fn new(
         frame: Frame,
         srr: Level,
@@ -94,7 +95,8 @@ impl Heard {
         })
     }
 
-    /// What is heard of a frame that is sent as it should be, and acknowledged.
+    /// Returns the frame as received if every level has the value that it is sent with, and a
+    /// receiver acknowledges.
     pub fn sent(frame: Frame) -> Heard
         ensures { result ≡ sent frame }
     {
@@ -108,7 +110,8 @@ impl Heard {
         }
     }
 
-    /// The same where no receiver has acknowledged the frame.
+    /// Returns the frame as received if every level has the value that it is sent with, and no
+    /// receiver acknowledges.
     pub fn unacknowledged(frame: Frame) -> Heard
         ensures { result ≡ record (sent frame) { acked = false } }
     {
@@ -124,7 +127,7 @@ impl Heard {
         ensures whole { IsHeard self.now }
     {
         let frame = self.frame;
-        // its bytes tell that it is within its limits
+        // gives callers that the frame is within its limits
         let _ = frame.bytes();
         frame
     }

@@ -13,32 +13,33 @@ pub fn one_check_sequence()
     ensures only { (b c : List Bit) → IsCrc b c → c ≡ crc_of b }
 {}
 
-/// Each list of levels has exactly one list with its stuff bits.
+/// Each list of levels has exactly one list with its stuff bits inserted.
 pub fn one_stuffing()
     ensures exists { (a : List Bit) → Stuffs a (stuffed a) }
     ensures only { (a b : List Bit) → Stuffs a b → b ≡ stuffed a }
 {}
 
-/// Each frame has exactly one list of levels on the wire.
+/// Each frame has exactly one encoding on the bus.
 pub fn one_wire()
     ensures exists { (f : Parts) → IsSpelling (head f) Dominant Recessive (wire f) }
     ensures only { (f : Parts) (w : List Bit) → IsSpelling (head f) Dominant Recessive w → w ≡ wire f }
 {}
 
-/// What is heard of a frame has exactly one spelling. Where all is as it should be, that is the
-/// frame's wire.
+/// A frame as received has exactly one encoding. If all levels are as sent and the frame is
+/// acknowledged, it is the encoding of the frame.
 pub fn one_spelling()
     ensures exists { (h : HeardParts) → IsHeard h → Spells h (spelling h) }
     ensures only { (h : HeardParts) (w : List Bit) → Spells h w → w ≡ spelling h }
     ensures sent { (f : Parts) → spelling (sent f) ≡ wire f }
 {}
 
-/// A list of levels spells at most one.
+/// A list of levels encodes at most one frame as received.
 pub fn one_heard()
     ensures { (h g : HeardParts) (w : List Bit) → Spells h w → Spells g w → h ≡ g }
 {}
 
-/// No spelling begins another: where two begin one list of levels, they are one.
+/// No encoding is a proper prefix of another. If two encodings begin the same list of levels, they
+/// are equal.
 pub fn no_spelling_begins_another()
     ensures { (h g : HeardParts) (v w x y : List Bit) → Spells h v → Spells g w → v ++ x ≡ w ++ y → (h ≡ g) × (v ≡ w) }
 {}

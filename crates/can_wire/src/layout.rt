@@ -17,7 +17,8 @@ const STANDARD_FORMAT: Level = Level::Dominant;
 /// The IDE bit of an extended frame.
 const EXTENDED_FORMAT: Level = Level::Recessive;
 
-/// The unstuffed levels of what is heard, from the start of frame to the end of the CRC sequence.
+/// Returns the unstuffed levels of a frame as received, from the start of frame on, CRC sequence
+/// included.
 pub fn head_and_crc<B: FrameBits>(heard: &Heard) -> B
     ensures levels { B.levels result ≡ heard_head heard.now ++ crc_of (heard_head heard.now) }
     ensures whole { IsHeard heard.now }
@@ -28,7 +29,7 @@ pub fn head_and_crc<B: FrameBits>(heard: &Heard) -> B
     levels
 }
 
-/// The unstuffed levels of what is heard, from the start of frame to the end of the data.
+/// Returns the unstuffed levels of a frame as received, from the start of frame to the data.
 pub fn head<B: FrameBits>(heard: &Heard) -> B
     ensures levels { B.levels result ≡ heard_head heard.now }
     ensures room { length (B.levels result) ≤ 103 }
@@ -47,7 +48,7 @@ pub fn head<B: FrameBits>(heard: &Heard) -> B
     levels
 }
 
-/// Appends what stands between the start of frame and r0 in a standard frame: identifier, RTR and
+/// Appends the levels between the start of frame and r0 in a standard frame: identifier, RTR and
 /// IDE.
 fn push_standard_format<B: FrameBits>(levels: &mut B, heard: &Heard)
     requires { length (B.levels levels.old) ≤ 1 }
@@ -61,8 +62,8 @@ fn push_standard_format<B: FrameBits>(levels: &mut B, heard: &Heard)
     levels.push(STANDARD_FORMAT);
 }
 
-/// The same in an extended frame: the identifier with SRR and IDE behind its eleven highest bits,
-/// RTR and r1.
+/// Appends the levels between the start of frame and r0 in an extended frame: the identifier with
+/// SRR and IDE after its eleven highest bits, RTR and r1.
 fn push_extended_format<B: FrameBits>(levels: &mut B, heard: &Heard)
     requires { length (B.levels levels.old) ≤ 1 }
     ensures levels { let frame = heard.now.frame in

@@ -7,9 +7,9 @@ use crate::two_words::TwoWords;
 use can_frame::Level;
 use std::marker::Model;
 
-/// The unstuffed levels of a frame in the highest bits of a register, the first of them its highest bit, so that each
-/// place has a bit of its own. Dominant bits stand behind them, so that equal levels have equal registers. Their CRC
-/// sequence is worked out when it is asked for.
+/// The unstuffed levels of a frame in the highest bits of a register, the first level highest, so that each place has
+/// a fixed bit. Dominant bits follow them, so that equal levels have equal registers. The CRC sequence is computed on
+/// request.
 #[derive(Clone, Copy, Debug)]
 pub struct PackedBits {
     register: TwoWords,
@@ -38,7 +38,7 @@ impl Model for PackedBits {
 }
 
 impl PackedBits {
-    /// The number whose lowest bits the levels are, the first of them the highest.
+    /// The levels as the lowest bits of a number, the first level highest.
     #[inline]
     fn number(&self) -> u128
         ensures few { length self.now ≤ 118 }
@@ -86,7 +86,7 @@ impl FrameBits for PackedBits {
 
     #[inline]
     fn number_at(&self, place: usize, count: usize) -> u64 {
-        // by one place first, since the whole may be by 128
+        // by one place first, since the whole shift may be by 128
         let upper = (self.register.number() >> 1) >> (127 - place - count);
         (upper % (1 << count)) as u64
     }
@@ -96,8 +96,7 @@ impl FrameBits for PackedBits {
         crc_of_number(self.number())
     }
 
-    /// Levels that end with the CRC sequence of those before it have 0 as their own: the generator
-    /// divides them as they stand.
+    /// Levels that end with their own CRC sequence have the CRC sequence 0: the generator divides them.
     #[inline]
     fn check_agrees(&self) -> bool {
         self.check() == 0

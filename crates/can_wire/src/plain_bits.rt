@@ -8,7 +8,7 @@ use arrayvec::ArrayVec;
 use can_frame::Level;
 use std::marker::Model;
 
-/// Room for the unstuffed levels of the longest frame, up to the end of its CRC sequence.
+/// Space for the unstuffed levels of the longest frame, including its CRC sequence.
 type Unstuffed = ArrayVec<Level, 118>;
 
 /// The unstuffed levels of a frame, one by one.
@@ -79,7 +79,7 @@ impl FrameBits for PlainBits {
     }
 }
 
-/// The number that the levels spell, the highest bit first.
+/// The number whose bits are the levels, the highest bit first.
 fn number(levels: &[Level]) -> u64
     requires { length levels.now ≤ 64 }
     ensures { result ≡ number_from 0 levels.now }

@@ -16,12 +16,12 @@ use can_frame::Level;
 /// The CRC delimiter and the ACK delimiter.
 const DELIMITER: Level = Level::Recessive;
 
-/// How many levels stand behind the stuffed part.
+/// The number of levels after the stuffed part.
 const TAIL_LEVELS: usize = 10;
 
-/// The levels that spell what is heard, one for each bit time, from the start of frame to the end
-/// of frame. Their CRC sequence is that of the levels that were heard. (Bosch CAN 2.0 part B,
-/// section 3.2.1)
+/// Returns the levels that encode a frame as received, one for each bit time. They begin with the start of frame and
+/// end with the end of frame. The CRC sequence is computed over the levels as received. (Bosch CAN 2.0 part B, section
+/// 3.2.1)
 pub fn respell(heard: &Heard) -> ArrayVec<Level, 157>
     ensures spells { Spells heard.now result.items }
     ensures only { (w : List Bit) → Spells heard.now w → w ≡ result.items }
@@ -35,7 +35,7 @@ pub fn respell(heard: &Heard) -> ArrayVec<Level, 157>
     wire
 }
 
-/// Puts these levels into the front of an array, and answers how many they are.
+/// Writes these levels to the front of an array, and returns how many there are.
 pub(crate) fn respell_into(heard: &Heard, levels: &mut [Level; LONGEST_WIRE]) -> usize
     ensures whole { IsHeard heard.now }
     ensures levels { take result levels.new ≡ spelling heard.now }
@@ -47,7 +47,7 @@ pub(crate) fn respell_into(heard: &Heard, levels: &mut [Level; LONGEST_WIRE]) ->
     part + TAIL_LEVELS
 }
 
-/// Lays out the levels with their stuff bits, eight in a step, and answers how many they are.
+/// Lays out the levels with their stuff bits, eight a step, and returns how many there are.
 fn lay_out(levels: &mut [Level; LONGEST_WIRE], unstuffed: &PackedBits) -> usize
     requires some { 1 ≤ length unstuffed.now }
     requires few { length unstuffed.now ≤ 118 }
@@ -68,8 +68,8 @@ fn lay_out(levels: &mut [Level; LONGEST_WIRE], unstuffed: &PackedBits) -> usize
     stuffing.len
 }
 
-/// Puts the ten levels behind the stuffed part: CRC delimiter, ACK slot, ACK delimiter, and seven levels of the end of
-/// frame.
+/// Writes the ten levels after the stuffed part: CRC delimiter, ACK slot, ACK delimiter, and the seven levels of the
+/// end of frame.
 fn put_tail(levels: &mut [Level; LONGEST_WIRE], place: usize, heard: &Heard)
     requires { place ≤ 147 }
     ensures { take (place + TAIL_LEVELS) levels.new ≡ take place levels.old ++ tail (ack_slot heard.now.acked) heard.now.last }

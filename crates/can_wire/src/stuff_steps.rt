@@ -1,4 +1,4 @@
-//! Levels as they are laid out with their stuff bits, eight in a step. (Bosch CAN 2.0 part B, section 6)
+//! Lays out levels with their stuff bits, eight a step. (Bosch CAN 2.0 part B, section 6)
 
 mod tables;
 
@@ -12,33 +12,33 @@ use crate::stuffing::{LONGEST_RUN, run_after};
 use can_frame::Level;
 use tables::{FIVE, FIVE_LEVELS, STUFFED_OCTETS};
 
-/// How many levels a step takes.
+/// The number of levels that a step takes.
 pub(crate) const STEP_LEVELS: usize = 8;
 
-/// How many levels it lays out at most.
+/// The maximum number of levels that a step lays out.
 pub(crate) const MOST_STEPPED: usize = 10;
 
-/// How many lengths a run behind a stuffed list may have.
+/// The number of possible run lengths after a stuffed list.
 const RUNS: u16 = 4;
 
-/// How many entries a row of the table has.
+/// The number of entries in a row of the table.
 const OCTETS: usize = 256;
 
-/// How many levels the longest frame has on the wire.
+/// The number of levels of the longest frame on the bus.
 pub const LONGEST_WIRE: usize = 157;
 
 /// Eight levels with their stuff bits.
 #[derive(Clone, Copy)]
 pub(crate) struct StuffStep {
-    /// A number whose ten bits begin with them, the first of them the highest.
+    /// A number of ten bits whose highest bits are these levels, the first level highest.
     pub(crate) number: u16,
-    /// How many they are.
+    /// The number of levels.
     pub(crate) len: usize,
-    /// The row of the table for what comes behind them.
+    /// The row of the table for the next levels.
     pub(crate) row: u16,
 }
 
-/// The eight levels of a byte with their stuff bits, by this row of the table.
+/// The eight levels of a byte with their stuff bits, from this row of the table.
 #[inline]
 pub(crate) fn stuff_step(row: u16, octet: u8) -> StuffStep
     requires { row < 8 }
@@ -55,7 +55,7 @@ pub(crate) fn stuff_step(row: u16, octet: u8) -> StuffStep
     }
 }
 
-/// What the table has in this row for the eight levels of a byte.
+/// The table entry in this row for the eight levels of a byte.
 #[inline]
 fn entry(row: u16, octet: u8) -> u16
     requires { row < 8 }
@@ -64,7 +64,7 @@ fn entry(row: u16, octet: u8) -> u16
     STUFFED_OCTETS[OCTETS * usize::from(row) + usize::from(octet)]
 }
 
-/// The row of the table for what comes behind a run of this level and length.
+/// The row of the table for the levels after a run of this level and length.
 pub(crate) fn row_of(last: Level, run: u8) -> u16
     requires some { 1 ≤ run }
     requires short { run < 5 }
@@ -75,12 +75,12 @@ pub(crate) fn row_of(last: Level, run: u8) -> u16
     RUNS * u16::from(last.is_recessive()) + u16::from(run) - 1
 }
 
-/// How far levels have been laid out with their stuff bits.
+/// How many levels have been laid out with their stuff bits.
 #[derive(Clone, Copy)]
 pub(crate) struct Stuffing {
-    /// How many there are.
+    /// The number of levels.
     pub(crate) len: usize,
-    /// The row of the table for what comes behind them.
+    /// The row of the table for the next levels.
     row: u16,
 }
 
@@ -96,7 +96,7 @@ impl Stuffing {
         }
     }
 
-    /// Lays out one level more, and the stuff bit that it makes due.
+    /// Lays out another level, and the stuff bit after it if one is due.
     #[inline]
     pub(crate) fn push(&mut self, levels: &mut [Level; LONGEST_WIRE], level: Level)
         requires small { self.old.row < 8 }
@@ -116,7 +116,7 @@ impl Stuffing {
         }
     }
 
-    /// Lays out the eight levels of a byte more, the highest bit first.
+    /// Lays out the eight levels of another byte, the highest bit first.
     #[inline]
     pub(crate) fn push_octet(&mut self, levels: &mut [Level; LONGEST_WIRE], octet: u8)
         requires small { self.old.row < 8 }
@@ -130,7 +130,7 @@ impl Stuffing {
     }
 }
 
-/// Puts the levels of a number's ten bits from a place on, the highest first.
+/// Writes the levels of a number's ten bits from a place on, the highest first.
 #[inline]
 fn put_ten(levels: &mut [Level; LONGEST_WIRE], place: usize, number: u16)
     requires room { place + MOST_STEPPED ≤ LONGEST_WIRE }
@@ -142,8 +142,8 @@ fn put_ten(levels: &mut [Level; LONGEST_WIRE], place: usize, number: u16)
     levels[place + FIVE..place + MOST_STEPPED].copy_from_slice(&second);
 }
 
-/// The levels of a number's five bits, the highest first. They are a copy, which the compiler knows to lie apart from
-/// where they are put.
+/// The levels of a number's five bits, the highest first. They are a copy, which the compiler knows not to overlap
+/// the target.
 #[inline]
 fn five_levels(number: u16) -> [Level; FIVE]
     requires { number < 2 ^ 5 }

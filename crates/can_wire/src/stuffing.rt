@@ -5,11 +5,11 @@ ghost use Rattle.can_wire.specs.Stuffing.{Stuffs, stuffed as stuffed_of, run_aft
 use arrayvec::ArrayVec;
 use can_frame::Level;
 
-/// How many equal levels in a row are followed by a stuff bit.
+/// The number of equal levels in a row after which a stuff bit follows.
 pub const LONGEST_RUN: u8 = 5;
 
-/// The levels with their stuff bits: behind five equal levels, stuff bits counted among them,
-/// stands one of the other level. (Bosch CAN 2.0 part B, section 6)
+/// Returns the levels with their stuff bits. After five equal levels, stuff bits included, a bit of
+/// the other level is inserted. (Bosch CAN 2.0 part B, section 6)
 pub fn stuff(levels: &[Level]) -> ArrayVec<Level, 147>
     requires { length levels.now ≤ 118 }
     ensures stuffs { Stuffs levels.now result.items }
@@ -32,7 +32,7 @@ pub fn stuff(levels: &[Level]) -> ArrayVec<Level, 147>
     stuffed
 }
 
-/// The length of the run that `level` ends, behind a run of `last`.
+/// The length of the run that `level` ends, after a run of `last` of length `run`.
 pub fn run_after(last: Level, run: u8, level: Level) -> u8
     requires { run < 5 }
     ensures { result ≡ run_after_of last run level }

@@ -2,8 +2,8 @@ ghost use Rattle.std.specs.Prelude.{◌≡◌};
 
 use std::marker::Model;
 
-/// A number of 128 bits as two words. It is aligned to eight bytes, where a `u128` is to sixteen, so
-/// what holds it stays small.
+/// A number of 128 bits as two words. It is aligned to 8 bytes, a `u128` to 16, so types that
+/// contain it stay small.
 #[derive(Clone, Copy, Debug)]
 pub(crate) struct TwoWords {
     high: u64,

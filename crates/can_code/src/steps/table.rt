@@ -1,9 +1,9 @@
-//! What up to eight levels make of a stuffed part. `proofs/StepTable.antt` computes every entry.
+//! The unstuffed form of up to eight levels of a stuffed part. `proofs/StepTable.antt` computes every entry.
 
-/// The step of up to eight levels, the first of them the lowest bit, below a bit that ends them, and of each level and
-/// length of a run before them, a row for each. Entries of the same levels stand side by side, so that the row, which is
-/// known last, is only added to their place. The lowest eight bits are the unstuffed levels, the next four how many they
-/// are, and the highest the row behind them.
+/// The step of up to eight levels, for each level and length of the run before them. The first level is the lowest bit
+/// of the column, and a bit above them ends them. Entries of the same levels are adjacent, so that the row, which is
+/// known last, is only added to the index. Of an entry, the lowest eight bits are the unstuffed levels, the next four
+/// their number, and the highest four the next row.
 pub(super) static STEPS: [u16; 5120] = [
     0x0000, 0x1000, 0x2000, 0x3000, 0x4000, 0x5000, 0x6000, 0x7000, 0x8000, 0x9000, 0x0000, 0x1000,
     0x2000, 0x3000, 0x4000, 0x5000, 0x6000, 0x7000, 0x8000, 0x9000, 0x1100, 0x2100, 0x3100, 0x4100,

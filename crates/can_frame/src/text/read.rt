@@ -1,6 +1,6 @@
-//! Reads the parts of a frame's text. Each function that the text's reader calls reads one part from
-//! its first byte on, and tells its value and where the next part begins, or where the text leaves
-//! the part's spellings.
+//! Reads the parts of a frame's text. Each function that `text.rt` calls reads one part from its
+//! first byte on. It returns the part's value and the place of the next part, or the place at which
+//! the text leaves all spellings of the part.
 ghost use Rattle.std.specs.Prelude.{◌≡◌, ◌<◌, ◌≤◌, ◌+◌, ◌-◌, ◌*◌, ◌^◌, ℕ, length, drop, IfOk, IfErr, IfSome, IfNone, slice_index};
 ghost use Rattle.hex.specs.Hex.{encode_lower, lower_digits, IsBytes};
 ghost use Rattle.can_frame.specs.Ident.{IsIdent};
@@ -15,7 +15,7 @@ use arrayvec::ArrayVec;
 /// The greatest data length code.
 const HIGHEST_DLC: u32 = 15;
 
-/// One of two letters and a blank: whether it is the second letter.
+/// Reads one of two letters and a space: whether it is the second letter.
 pub(super) fn letter(
     text: &[u8],
     start: usize,
@@ -38,7 +38,7 @@ pub(super) fn letter(
     Ok((byte == second, next))
 }
 
-/// The identifier and its blank.
+/// Reads the identifier and its space.
 pub(super) fn identifier(
     text: &[u8],
     start: usize,
@@ -64,7 +64,7 @@ pub(super) fn identifier(
     Ok((id.unwrap(), next))
 }
 
-/// The data length code, and its blank where data bytes follow.
+/// Reads the DLC, and its space if data bytes follow.
 pub(super) fn data_length_code(
     text: &[u8],
     start: usize,
@@ -84,7 +84,7 @@ pub(super) fn data_length_code(
     Ok((dlc, next))
 }
 
-/// How many data bytes a frame has.
+/// The number of data bytes of a frame.
 pub(super) fn byte_count(is_remote: bool, dlc: u8) -> usize
     ensures { result ≡ byte_count is_remote dlc }
 {
@@ -95,7 +95,7 @@ pub(super) fn byte_count(is_remote: bool, dlc: u8) -> usize
     }
 }
 
-/// So many data bytes, eight at most, of two hexadecimal digits each.
+/// Reads `count` data bytes, at most 8, of two hexadecimal digits each.
 pub(super) fn data(
     text: &[u8],
     start: usize,
@@ -118,7 +118,7 @@ pub(super) fn data(
     Ok((bytes, place))
 }
 
-/// The number of so many hexadecimal digits, the first of them below a limit.
+/// Reads `count` hexadecimal digits, the first of them below a limit.
 fn number(
     text: &[u8],
     start: usize,
@@ -142,7 +142,7 @@ fn number(
     Ok(number)
 }
 
-/// One hexadecimal digit below a limit.
+/// Reads one hexadecimal digit below a limit.
 fn digit(text: &[u8], place: usize, limit: u32, kind: TextFaultKind) -> Result<u32, TextFault>
     requires within { place ≤ length text.now }
     requires some { 0 < limit }
@@ -157,14 +157,14 @@ fn digit(text: &[u8], place: usize, limit: u32, kind: TextFaultKind) -> Result<u
     }
 }
 
-/// What the lower-case hexadecimal digit at this place stands for.
+/// The value of the lower-case hexadecimal digit at this place, if there is one.
 fn digit_at(text: &[u8], place: usize) -> Option<u32>
     ensures some { IfSome result
         (λ d. (place < length text.now) × IsDigit d (slice_index text.now place)) }
     ensures none { IfNone result
         ((d : ℕ) → place < length text.now → IsDigit d (slice_index text.now place) → ⊥) }
 {
-    // by a table, since no branch on a digit or a letter could be foretold
+    // a table, since a branch on digit or letter could not be predicted
     let number = NUMBER_OF_DIGIT[usize::from(*text.get(place)?)];
     if number < 16 {
         Some(u32::from(number))
@@ -173,7 +173,8 @@ fn digit_at(text: &[u8], place: usize) -> Option<u32>
     }
 }
 
-/// A DLC in decimal, and where its digits end. They are as many as make a DLC.
+/// Reads a DLC in decimal: its value and where its digits end. It takes the longest prefix that is a
+/// DLC.
 fn decimal(text: &[u8], start: usize) -> Result<(u8, usize), TextFault>
     requires { start ≤ length text.now }
     ensures range { IfOk result (λ r. r.0 < 16) }
@@ -190,7 +191,7 @@ fn decimal(text: &[u8], start: usize) -> Result<(u8, usize), TextFault>
     }
 }
 
-/// Where the text goes on behind a blank.
+/// Returns the place after a space.
 fn pass_blank(text: &[u8], place: usize, kind: TextFaultKind) -> Result<usize, TextFault>
     requires { place ≤ length text.now }
     ensures read { IfOk result (StandsAt blank text.now place) }
@@ -202,7 +203,7 @@ fn pass_blank(text: &[u8], place: usize, kind: TextFaultKind) -> Result<usize, T
     }
 }
 
-/// What each byte stands for as a lower-case hexadecimal digit, and 255 where it is none.
+/// The value of each byte as a lower-case hexadecimal digit, or 255 if it is none.
 static NUMBER_OF_DIGIT: [u8; 256] = [
     255, 255, 255, 255, 255, 255, 255, 255, 255, 255, 255, 255, 255, 255, 255, 255, 255, 255, 255,
     255, 255, 255, 255, 255, 255, 255, 255, 255, 255, 255, 255, 255, 255, 255, 255, 255, 255, 255,

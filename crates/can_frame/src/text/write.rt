@@ -1,5 +1,5 @@
-//! Writes the parts of a frame's text, two hexadecimal digits at a time. They stand within their caller, so that the length
-//! of what they are appended to stays in a register.
+//! Writes the parts of a frame's text, two hexadecimal digits at a time. The calls are inlined, so that the length of
+//! the vector stays in a register.
 ghost use Rattle.std.specs.Prelude.{◌≡◌, ◌+◌, ◌^◌, ◌<◌, ◌≤◌, ◌++◌, length};
 ghost use Rattle.std.specs.Int.{to_le_bytes, w16};
 ghost use Rattle.hex.specs.Hex.{encode_lower};
@@ -9,7 +9,7 @@ ghost use Rattle.can_frame.specs.Text.{direction_part, dlc_part, hex_digits, ide
 use crate::frame::Frame;
 use arrayvec::ArrayVec;
 
-/// Appends the letter of a standard or an extended frame and the identifier, each with a blank.
+/// Appends the kind letter and the identifier, each with a space.
 #[inline(always)]
 pub(super) fn identifier<const ROOM: usize>(text: &mut ArrayVec<u8, ROOM>, frame: &Frame)
     requires { length text.old.items + 11 ≤ ROOM }
@@ -26,8 +26,7 @@ pub(super) fn identifier<const ROOM: usize>(text: &mut ArrayVec<u8, ROOM>, frame
     }
 }
 
-/// Appends the letter of a data or a remote frame and the DLC, with a blank behind it only where there
-/// are data bytes.
+/// Appends the letter of a data or a remote frame and the DLC, with a space after it only if there are data bytes.
 #[inline(always)]
 pub(super) fn direction_and_dlc<const ROOM: usize>(text: &mut ArrayVec<u8, ROOM>, frame: &Frame)
     requires { length text.old.items + 5 ≤ ROOM }
@@ -46,7 +45,7 @@ pub(super) fn direction_and_dlc<const ROOM: usize>(text: &mut ArrayVec<u8, ROOM>
     }
 }
 
-/// Appends the data bytes of a frame: eight of them at once, and then those that it has are kept.
+/// Appends the data bytes of a frame: it writes eight, then keeps those that the frame has.
 #[inline(always)]
 pub(super) fn data<const ROOM: usize>(text: &mut ArrayVec<u8, ROOM>, frame: &Frame)
     requires { length text.old.items + 16 ≤ ROOM }
@@ -81,7 +80,7 @@ fn digits(number: u64) -> [u8; 8]
     (front + (rest << 32)).to_le_bytes()
 }
 
-/// The two lowest hexadecimal digits of a number, the code of the first as its lowest byte.
+/// The two lowest hexadecimal digits of a number; the first one is the lowest byte.
 #[inline]
 fn pair(number: u64) -> u64
     ensures small { result < 2 ^ 16 }
@@ -90,7 +89,7 @@ fn pair(number: u64) -> u64
     u64::from(PAIRS[(number % 256) as usize])
 }
 
-/// The two hexadecimal digits of each byte, in lower case, the code of the second above that of the first.
+/// The two lower-case hexadecimal digits of each byte value; the first one is the lower byte.
 static PAIRS: [u16; 256] = [
     0x3030, 0x3130, 0x3230, 0x3330, 0x3430, 0x3530, 0x3630, 0x3730, 0x3830, 0x3930, 0x6130, 0x6230,
     0x6330, 0x6430, 0x6530, 0x6630, 0x3031, 0x3131, 0x3231, 0x3331, 0x3431, 0x3531, 0x3631, 0x3731,

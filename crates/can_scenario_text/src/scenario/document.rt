@@ -1,4 +1,4 @@
-//! The document of a scenario, and its fields at the top but for the disturbances.
+//! The document of a scenario, and its fields at the top level, except the injected bit errors.
 ghost use Rattle.std.specs.Prelude.{◌≡◌, codes, map, IfErr, IfNone, IfOk, IfSome, IsErrOf, IsTrue, OnOk, OnSome, ◌↔◌};
 ghost use Rattle.toml.specs.Data.{table};
 ghost use Rattle.toml.specs.View.{view, table_view};
@@ -20,16 +20,16 @@ use toml::{Table, Value};
 /// The fields that a document of version 1 may have.
 const TOP_FIELDS: [&str; 6] = ["version", "bits", "port", "at", "in", "view"];
 
-/// Those of version 2, which has no disturbances.
+/// The fields that a document of version 2 may have, which has no injected bit errors.
 const TIMED_TOP_FIELDS: [&str; 3] = ["version", "bits", "port"];
 
-/// How many bit times a run may have.
+/// The maximum number of bit times of a run.
 const MOST_BITS: u64 = 1_000_000;
 
-/// How many ports a bus may have.
+/// The maximum number of ports of a bus.
 const MOST_PORTS: usize = 64;
 
-/// The document that the bytes are.
+/// Parses the bytes as a document.
 pub(crate) fn parse(alloc: Global, text: &[u8]) -> Result<Table, TraceFault>
     ensures said { IfOk result (λ fields. IsDocument text.now (table (table_view fields))) }
     ensures unmet { (wrong : Wrong) → IsErrOf result (TraceFault.ScenarioField wrong) → IsNoDocument Field.Document wrong text.now }
@@ -42,18 +42,18 @@ pub(crate) fn parse(alloc: Global, text: &[u8]) -> Result<Table, TraceFault>
     }
 }
 
-/// The fields at the top.
+/// The fields at the top level.
 #[derive(Clone, Copy)]
 pub(crate) struct Top<'a> {
-    /// By which version the document is read.
+    /// The version according to which the document is read.
     pub(crate) version: Version,
-    /// How many bit times the run has.
+    /// The number of bit times of the run.
     pub(crate) bits: u32,
     /// The values in the list of ports.
     pub(crate) ports: &'a [Value],
 }
 
-/// Reads the fields at the top.
+/// Reads the fields at the top level.
 pub(crate) fn read_top(document: &Table) -> Result<Top<'_>, TraceFault>
     ensures version { IfOk result (λ top. top.version ≡ version_of_document (table (table_view document.now))) }
     ensures bits { IfOk result (λ top. IsRequired (IsNumber top.bits) (named (codes "bits") (table (table_view document.now)))) }
@@ -81,7 +81,7 @@ pub(crate) fn read_top(document: &Table) -> Result<Top<'_>, TraceFault>
     })
 }
 
-/// The version that the document says, if there is such a version.
+/// The version that the document states, if it is 1 or 2.
 fn version_said(document: &Table) -> Option<Version>
     ensures { result ≡ version_in (table (table_view document.now)) }
 {
@@ -92,7 +92,7 @@ fn version_said(document: &Table) -> Option<Version>
     }
 }
 
-/// Whether the document has only fields that it may have in this version.
+/// Whether the document has only fields that are allowed in this version.
 fn knows_all_fields(version: Version, document: &Table) -> bool
     ensures { result ≡ are_known (top_fields version) (table_view document.now) }
 {
@@ -102,7 +102,7 @@ fn knows_all_fields(version: Version, document: &Table) -> bool
     }
 }
 
-/// The values in the list of ports: 1 to 64 of them.
+/// The values in the list of ports, 1 to 64.
 fn port_values(document: &Table) -> Option<&[Value]>
     ensures said { IfSome result (λ values. map view values.now ≡ port_elements (table (table_view document.now))) }
     ensures met { OnSome result (IsRequired IsPortArray (named (codes "port") (table (table_view document.now)))) }

@@ -1,4 +1,4 @@
-//! The disturbances of a scenario's document.
+//! The injected bit errors of a scenario's document.
 ghost use Rattle.std.specs.Prelude.{◌≡◌, ◌↔◌, ℕ, Option, Some, map, option_map, IfErr, IfOk, IfSome, IsErrOf, IsNone, IsTrue, MatchOption, OnOk};
 ghost use Rattle.can_hit.specs.Hits.{AreTaken, hit_names_port as names_port_of};
 ghost use Rattle.toml.specs.Data.{table};
@@ -15,7 +15,7 @@ use document_values::{field, two_of, whole_number};
 use std::alloc::Global;
 use toml::{Table, Value};
 
-/// All disturbances of the document, in order, on a bus of so many ports.
+/// All injected bit errors of the document, in order, for a bus with this number of ports.
 pub(crate) fn read_hits(
     alloc: Global,
     document: &Table,
@@ -34,7 +34,7 @@ pub(crate) fn read_hits(
     Ok(hits)
 }
 
-/// Reads one list of the document behind the hits that were read before.
+/// Reads one list of the document, and appends it to the hits that were read before.
 fn read_list(
     list: HitList,
     document: &Table,
@@ -66,7 +66,7 @@ fn name_of(list: HitList) -> &'static str
     }
 }
 
-/// Reads the elements of a list behind the hits that were read before.
+/// Reads the elements of a list, and appends them to the hits that were read before.
 fn read_elements(
     list: HitList,
     values: &[Value],
@@ -91,7 +91,8 @@ fn read_elements(
     Ok(())
 }
 
-/// The disturbance that an element says, if it is one that may stand behind the one before it.
+/// The hit that an element describes, if it names an existing port and is greater than the one
+/// before it.
 fn sound_hit(list: HitList, value: &Value, ports: usize, before: Option<Hit>) -> Option<Hit>
     ensures said { IfSome result (λ hit. hit_said list (view value.now) ≡ Some hit) }
     ensures sound { IfSome result (λ hit. IsSoundHit ports before (Some hit)) }
@@ -101,7 +102,7 @@ fn sound_hit(list: HitList, value: &Value, ports: usize, before: Option<Hit>) ->
     (names_port(ports, hit) && is_above_before(before, hit)).then_some(hit)
 }
 
-/// Of so many ports the hit names one, if it names any.
+/// Whether the port that the hit names, if any, is one of this number of ports.
 fn names_port(ports: usize, hit: Hit) -> bool
     ensures { result ≡ names_port_of ports hit }
 {
@@ -111,7 +112,7 @@ fn names_port(ports: usize, hit: Hit) -> bool
     }
 }
 
-/// Whether the hit is above the one before it, if there is one.
+/// Whether the hit is greater than the one before it, if there is one.
 fn is_above_before(before: Option<Hit>, hit: Hit) -> bool
     ensures { IsTrue result ↔ IsAboveBefore before hit }
 {
@@ -121,7 +122,7 @@ fn is_above_before(before: Option<Hit>, hit: Hit) -> bool
     }
 }
 
-/// The disturbance that an element of the list says, if it says one.
+/// The hit that an element of the list describes, if it describes one.
 fn hit_in(list: HitList, value: &Value) -> Option<Hit>
     ensures { result ≡ hit_said list (view value.now) }
 {

@@ -18,16 +18,16 @@ use toml::{Table, Value};
 /// The fields that a port may have.
 const PORT_FIELDS: [&str; 4] = ["queue", "log", "join", "hold"];
 
-/// How many entries a log may have room for.
+/// The maximum capacity of a log, in entries.
 const MOST_LOG_ROOM: u64 = 65536;
 
-/// For how many it has room where nothing is said.
+/// The default capacity of a log.
 const USUAL_LOG_ROOM: u64 = 64;
 
-/// How many overload frames a port may ask for.
+/// The maximum number of overload frames that a port may ask for.
 const MOST_OVERLOADS: u64 = 2;
 
-/// The ports whose tables these are.
+/// The ports that these tables describe.
 pub(crate) fn read_ports(
     alloc: Global,
     version: Version,
@@ -45,7 +45,7 @@ pub(crate) fn read_ports(
     Ok(plans)
 }
 
-/// The port of this number, whose table this is.
+/// The port with this number, which this table describes.
 fn read_port(
     alloc: Global,
     version: Version,
@@ -65,14 +65,14 @@ fn read_port(
     with_queue(number, fields, queue)
 }
 
-/// The refusal of a port's field.
+/// The fault of a port's field.
 fn refused(number: usize, part: PortField) -> TraceFault
     ensures { result ≡ TraceFault.ScenarioField (Field.Port number part) }
 {
     TraceFault::ScenarioField(Field::Port { number, part })
 }
 
-/// The frames in the queue of the port of this number, whose fields these are.
+/// The frames in the queue of the port with this number and these fields.
 fn read_queue(
     alloc: Global,
     version: Version,
@@ -88,7 +88,7 @@ fn read_queue(
     read_frames(alloc, version, number, values)
 }
 
-/// The frames that these elements of the queue of the port of this number say.
+/// The frames that these elements describe, in the queue of the port with this number.
 fn read_frames(
     alloc: Global,
     version: Version,
@@ -110,7 +110,7 @@ fn read_frames(
     Ok(frames)
 }
 
-/// The port of this number with this queue, whose fields these are.
+/// The port with this number, queue and fields.
 fn with_queue(number: usize, fields: &Table, queue: Vec<TimedFrame>) -> Result<PortPlan, TraceFault>
     ensures queue { IfOk result (λ plan. plan.queue.items ≡ queue.items) }
     ensures log_room { IfOk result (λ plan. SaysNumber usual_log_room (named (codes "log") (table (table_view fields.now))) plan.log_room) }

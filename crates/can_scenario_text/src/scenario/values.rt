@@ -9,10 +9,10 @@ use crate::scenario::version::Version;
 use document_values::{frame, number, two_of};
 use toml::Value;
 
-/// Before which bit time a frame may be offered at most.
+/// The latest bit time before which a frame may be offered.
 const MOST_TIME: u64 = 1_000_000;
 
-/// The frame that an element of a queue says, with the time at which it is offered.
+/// The frame that an element of a queue describes, with the time at which it is offered.
 pub(crate) fn queued(version: Version, value: &Value) -> Option<TimedFrame>
     ensures said { IfSome result (SaysQueueElement version (view value.now)) }
     ensures met { OnSome result (IsQueueElement version (view value.now)) }
@@ -24,7 +24,7 @@ pub(crate) fn queued(version: Version, value: &Value) -> Option<TimedFrame>
     }
 }
 
-/// The frame whose text the value is, offered at time 0.
+/// The frame with this text, offered at time 0.
 fn first_frame(value: &Value) -> Option<TimedFrame>
     ensures said { IfSome result (SaysQueueElement Version.One (view value.now)) }
     ensures met { OnSome result (IsFrameValue (view value.now)) }

@@ -1,7 +1,7 @@
 /// The version of a scenario's format.
 #[derive(Clone, Copy)]
 pub(crate) enum Version {
-    /// Frames that wait as the run begins, and disturbances.
+    /// Frames that are pending at the beginning of the run, and injected bit errors.
     One,
     /// Frames with the times at which they are offered.
     Two,

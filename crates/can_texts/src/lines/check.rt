@@ -16,28 +16,32 @@ use can_stream::{LineReader, Outbox, Sink, Source, TraceFault};
 /// How many bytes of a line are kept: a frame text of 32, ` = `, 157 levels, and one more.
 const KEPT: usize = 193;
 
-/// Reads lines of a frame text, ` = ` and up to 157 levels, `0` or `1`, and writes for each whether the
-/// levels are those that the frame's sender drives: `ok`, or `differs at ` and the first place where they
-/// differ, or the shorter length. At the end it writes `passed P of N`. Each line is ended by 0x0a. It
-/// answers the two numbers, how many lines passed, and of how many.
+/// Checks lines of frame text and levels, and returns how many lines passed, and of how many. A line is a
+/// frame text, ` = ` and at most 157 levels, `0` or `1`. The levels are compared with those that the
+/// frame's transmitter drives. For each line it writes `ok`, or `differs at ` and the first place at which
+/// they differ (or the shorter length). At the end it writes `passed P of N`. Each output line ends with
+/// 0x0a.
 ///
-/// A line is ended by 0x0a; the last may lack it, and empty input has no lines. Lines may have any
-/// length. It takes no memory. The reader must have neither failed nor ended before the call, and the
-/// writer must not have failed.
+/// An input line ends with 0x0a; the last one may lack it, and empty input has no lines. Lines may have
+/// any length. The call allocates no memory. Before the call the reader must not have failed or ended, and
+/// the writer must not have failed.
 ///
-/// `Ok` comes only where the reader ended in this call. `FrameLine` names the first bad line, once that
-/// has ended, where its bytes before ` = ` are no frame text, or are one and all of the line. `BadByte` is
-/// the place in the input, from 0, of the first byte that is no level's digit or has 157 levels before it,
-/// in a line that is good so far; it may come before the line has ended. `Read` and `Write` say that the
-/// reader or the writer failed; the call that failed is not tried again. `Long` says that the input has
-/// more than 2^63 bytes. All lines before the fault have been answered, unless it is `Write`: then a
-/// beginning of the answer is written.
+/// The result is `Ok` only if the reader ended in this call. Errors:
+///
+/// - `FrameLine`: the first bad line, once it has ended. Its bytes before ` = ` are not a frame text, or
+///   the line is a frame text alone.
+/// - `BadByte`: the place in the input, from 0, of the first byte that is not a digit of a level, or that
+///   follows 157 levels. The line is good before it, and need not have ended.
+/// - `Read`, `Write`: the reader or the writer failed. The failed call is not repeated.
+/// - `Long`: the input has more than 2^63 bytes.
+///
+/// The output for all lines before the fault is written. After `Write`, a prefix of the output is written.
 pub fn check_lines<R: Source, W: Sink>(r: &mut R, w: &mut W) -> Result<(u64, u64), TraceFault>
     requires reader_unfailed { R.has_failed r.old ≡ false }
     requires reader_unended { R.has_ended r.old ≡ false }
     requires writer_unfailed { W.has_failed w.old ≡ false }
 
-    // What was written of what was read.
+    // What was written for what was read.
     ensures ok { IfOk result (λ t. Told R.remaining r.old r.new W.contents w.old w.new (ChecksAll t.0 t.1)) }
     ensures read { IsErrOf result TraceFault.Read → Told R.remaining r.old r.new W.contents w.old w.new ChecksEnded }
     ensures write { IsErrOf result TraceFault.Write →
@@ -50,7 +54,7 @@ pub fn check_lines<R: Source, W: Sink>(r: &mut R, w: &mut W) -> Result<(u64, u64
     ensures no_field { (wrong : Field) → IsErrOf result (TraceFault.ScenarioField wrong) → ⊥ }
     ensures no_memory { IsErrOf result TraceFault.Memory → ⊥ }
 
-    // What the reader and the writer came to.
+    // The state of the reader and the writer.
     ensures ended { OnOk result (IsTrue (R.has_ended r.new)) }
     ensures at_end { OnOk result (IsAtEnd (R.remaining r.new)) }
     ensures read_unended { IsErrOf result TraceFault.Read → IsFalse (R.has_ended r.new) }
@@ -68,7 +72,7 @@ pub fn check_lines<R: Source, W: Sink>(r: &mut R, w: &mut W) -> Result<(u64, u64
     checked
 }
 
-/// Answers all lines, and then their total. The last answers wait in the buffer.
+/// Checks all lines, then appends their total. The last output is still in the buffer.
 fn check_all<R: Source, W: Sink>(
     r: &mut R,
     w: &mut W,
@@ -94,7 +98,7 @@ fn check_all<R: Source, W: Sink>(
     Ok(tally)
 }
 
-/// Answers all lines.
+/// Checks all lines.
 fn check_each<R: Source, W: Sink>(
     r: &mut R,
     w: &mut W,
@@ -133,8 +137,8 @@ fn check_each<R: Source, W: Sink>(
     Ok((passed, number))
 }
 
-/// Reads the next line, which begins at this place of the input. Where no more is read before the line's
-/// end, a bad byte in what came of it is answered first, unless the writer has failed.
+/// Reads the next line, which begins at this place of the input. If reading stops before the line's end, a
+/// bad byte in the line so far is reported first, unless the writer has failed.
 fn next_line<R: Source, W: Sink>(
     lines: &mut LineReader<KEPT>,
     start: u64,
@@ -164,8 +168,8 @@ fn next_line<R: Source, W: Sink>(
     }
 }
 
-/// The fault of an input that stops in this line, which begins at this place of it: that of a bad byte in
-/// the line, else the one why no more is read.
+/// The fault of an input that stops in this line, which begins at place `start`: a bad byte in the line,
+/// if there is one, otherwise `fault`.
 fn open_fault(line: &[u8], start: u64, fault: TraceFault) -> TraceFault
     requires { start + length line.now < 2 ^ 64 }
     ensures { IsOpenFault start line.now fault result }
@@ -178,8 +182,8 @@ fn open_fault(line: &[u8], start: u64, fault: TraceFault) -> TraceFault
     }
 }
 
-/// Puts the verdict of the line, which begins at this place of the input, and answers 1 where it passes,
-/// else 0.
+/// Appends the verdict of the line, which begins at this place of the input. Returns 1 if it passes,
+/// otherwise 0.
 fn check_line<W: Sink>(
     line: &[u8],
     number: u64,

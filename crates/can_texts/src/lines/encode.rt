@@ -15,22 +15,27 @@ use can_wire::{DIGITS_ROOM, driven_digits};
 /// How many bytes of a line are kept: one more than the longest frame text has.
 const KEPT: usize = 33;
 
-/// Reads lines of frame text and writes for each the levels of its frame, as `0` and `1` and 0x0a.
+/// Reads lines of frame text, and writes for each the levels that the frame's transmitter drives. An
+/// output line has a `0` or `1` for each level.
 ///
-/// A line is ended by 0x0a; the last may lack it, and empty input has no lines. Lines may have any
-/// length. It takes no memory. The reader must have neither failed nor ended before the call, and the
-/// writer must not have failed.
+/// A line ends with 0x0a; the last input line may lack it, and empty input has no lines. Lines may have
+/// any length. The call allocates no memory. Before the call the reader must not have failed or ended,
+/// and the writer must not have failed.
 ///
-/// `Ok` comes only where the reader ended in this call. `FrameLine` names the first line that is no
-/// frame text, once that has ended. `Read` and `Write` say that the reader or the writer failed; the call
-/// that failed is not tried again. `Long` says that the input has more than 2^63 bytes. All lines before
-/// the fault have been answered, unless it is `Write`: then a beginning of the answer is written.
+/// The result is `Ok` only if the reader ended in this call. Errors:
+///
+/// - `FrameLine`: the first line that is not a frame text, once it has ended.
+/// - `Read`, `Write`: the reader or the writer failed. The failed call is not repeated.
+/// - `Long`: the input has more than 2^63 bytes.
+///
+/// The output for all lines before the fault is written. After `Write`, a prefix of the output is
+/// written.
 pub fn encode_lines<R: Source, W: Sink>(r: &mut R, w: &mut W) -> Result<(), TraceFault>
     requires reader_unfailed { R.has_failed r.old ≡ false }
     requires reader_unended { R.has_ended r.old ≡ false }
     requires writer_unfailed { W.has_failed w.old ≡ false }
 
-    // What was written of what was read.
+    // What was written for what was read.
     ensures ok { OnOk result (Told R.remaining r.old r.new W.contents w.old w.new EncodesAll) }
     ensures read { IsErrOf result TraceFault.Read → Told R.remaining r.old r.new W.contents w.old w.new EncodesEnded }
     ensures write { IsErrOf result TraceFault.Write →
@@ -43,7 +48,7 @@ pub fn encode_lines<R: Source, W: Sink>(r: &mut R, w: &mut W) -> Result<(), Trac
     ensures no_field { (wrong : Field) → IsErrOf result (TraceFault.ScenarioField wrong) → ⊥ }
     ensures no_memory { IsErrOf result TraceFault.Memory → ⊥ }
 
-    // What the reader and the writer came to.
+    // The state of the reader and the writer.
     ensures ended { OnOk result (IsTrue (R.has_ended r.new)) }
     ensures at_end { OnOk result (IsAtEnd (R.remaining r.new)) }
     ensures read_unended { IsErrOf result TraceFault.Read → IsFalse (R.has_ended r.new) }
@@ -59,7 +64,7 @@ pub fn encode_lines<R: Source, W: Sink>(r: &mut R, w: &mut W) -> Result<(), Trac
     answered
 }
 
-/// Answers all lines. The last answers wait in the buffer.
+/// Encodes all lines. The last output is still in the buffer.
 fn answer_lines<R: Source, W: Sink>(
     r: &mut R,
     w: &mut W,
@@ -92,7 +97,7 @@ fn answer_lines<R: Source, W: Sink>(
     Ok(())
 }
 
-/// Puts the levels of the frame whose text the line is.
+/// Appends the levels of the frame whose text is this line.
 fn answer_line<W: Sink>(
     line: &[u8],
     number: u64,
@@ -113,7 +118,7 @@ fn answer_line<W: Sink>(
     }
 }
 
-/// Puts the line of the frame's levels, as its sender drives them.
+/// Appends the line of the frame's levels, as its transmitter drives them.
 fn put_frame<W: Sink>(frame: &Frame, w: &mut W, out: &mut Outbox) -> Result<(), TraceFault>
     requires { W.has_failed w.old ≡ false }
     ensures ok { OnOk result (PassesOn (W.contents w.old) (W.contents w.new) out.old out.new (coded_line frame.now)) }
@@ -127,7 +132,7 @@ fn put_frame<W: Sink>(frame: &Frame, w: &mut W, out: &mut Outbox) -> Result<(), 
     out.put(w, &line[start..end])
 }
 
-/// Writes the line of the frame's levels, and answers where it begins and where it ends.
+/// Writes the line of the frame's levels, and returns its start and end.
 fn write_line(frame: &Frame, line: &mut [u8; DIGITS_ROOM]) -> (usize, usize)
     ensures order { result.0 ≤ result.1 }
     ensures bound { result.1 ≤ DIGITS_ROOM }

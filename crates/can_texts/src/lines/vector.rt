@@ -1,4 +1,4 @@
-//! A line of a frame's text and levels, and whether those are the frame's own.
+//! A line of a frame's text and levels, and whether the levels are the frame's.
 ghost use Rattle.std.specs.Prelude.{◌≡◌, ℕ, ◌≤◌, ◌<◌, ◌++◌, List, length, take, IfOk, IfErr, IsErrOf, OnOk};
 ghost use Rattle.can_frame.specs.Parts.{IsFrame};
 ghost use Rattle.can_frame.specs.Text.{frame_text};
@@ -10,20 +10,20 @@ use can_frame::{Frame, Level, TextFault, TextFaultKind};
 use can_wire::{DIGITS_ROOM, LONGEST_WIRE, driven_digits};
 use memchr::memchr;
 
-/// How many levels a line has at most.
+/// The maximum number of levels of a line.
 const MOST_LEVELS: usize = LONGEST_WIRE;
 
-/// What a line of a frame's text and levels comes to.
+/// The verdict on a line of a frame's text and levels.
 #[derive(Clone, Copy)]
 pub(crate) enum Verdict {
-    /// The levels are those that the frame's sender drives.
+    /// The levels are those that the frame's transmitter drives.
     Agrees,
-    /// They are not, and this is the first place where they differ, or the shorter length.
+    /// They are not. This is the first place at which they differ, or the shorter length.
     DiffersAt(usize),
 }
 
 impl Verdict {
-    /// 1 where the line passes, else 0.
+    /// 1 if the line passes, otherwise 0.
     pub(crate) fn passed(self) -> u64
         ensures { result ≡ passed_by self }
     {
@@ -37,13 +37,13 @@ impl Verdict {
 /// Why a line has no verdict.
 #[derive(Clone, Copy)]
 pub(crate) enum BadLine {
-    /// It doesn't begin with a frame text and ` = `.
+    /// It does not begin with a frame text and ` = `.
     Frame(TextFault),
-    /// The byte at this place of the line is no level's digit, or has 157 levels before it.
+    /// The byte at this place of the line is not a digit of a level, or follows 157 levels.
     Byte(usize),
 }
 
-/// Compares the levels of the line with those that the sender of its frame drives.
+/// Compares the levels of the line with those that the transmitter of its frame drives.
 pub(crate) fn judge(line: &[u8]) -> Result<Verdict, BadLine>
     ensures ok { IfOk result (IsVectorVerdict line.now) }
     ensures err { IfErr result (IsBadAs line.now) }
@@ -58,8 +58,8 @@ pub(crate) fn judge(line: &[u8]) -> Result<Verdict, BadLine>
     }
 }
 
-/// Compares the levels whose digits these are with those that the sender of the frame drives. Where the
-/// bytes are no levels' digits, it answers the place of the first that is none, or is one too many.
+/// Compares the levels with these digits with those that the transmitter of the frame drives. If a byte is not a
+/// digit of a level, or is one too many, returns the place of the first such byte.
 fn judge_digits(digits: &[u8], frame: &Frame) -> Result<Verdict, usize>
     ensures ok { IfOk result (ComparesDigits digits.now frame.now) }
     ensures err { IfErr result (IsFirstBadDigit digits.now) }
@@ -75,10 +75,10 @@ fn judge_digits(digits: &[u8], frame: &Frame) -> Result<Verdict, usize>
     Ok(Verdict::DiffersAt(place))
 }
 
-/// What a line begins with.
+/// The beginning of a line.
 #[derive(Drop)]
 struct Opening {
-    /// The frame whose text it is.
+    /// The frame of its text.
     frame: Frame,
     /// The place of the first level.
     start: usize,
@@ -105,12 +105,12 @@ fn read_opening(line: &[u8]) -> Result<Opening, TextFault>
     })
 }
 
-/// How many bytes stand before the first ` = `, all of them if there is none.
+/// The number of bytes before the first ` = `, or of all bytes if there is none.
 fn frame_length(line: &[u8]) -> usize
     ensures within { result ≤ length line.now }
     ensures part { IsFramePart line.now (take result line.now) }
 {
-    // no mark ends before the first `=`
+    // no ` = ` ends before the first `=`
     let equals = memchr(b'=', line).unwrap_or(line.len());
     for place in equals.saturating_sub(1)..line.len() {
         if line[place..].starts_with(b" = ") {
@@ -120,7 +120,8 @@ fn frame_length(line: &[u8]) -> usize
     line.len()
 }
 
-/// Whether these are the digits of levels, or else the place of the first byte that is none, or is one too many.
+/// Checks that these are the digits of levels. Otherwise returns the place of the first byte that is not, or is
+/// one too many.
 fn check_digits(digits: &[u8]) -> Result<(), usize>
     ensures ok { OnOk result ((levels : List Bit) × IsLevels digits.now levels) }
     ensures err { IfErr result (IsFirstBadDigit digits.now) }
@@ -134,7 +135,7 @@ fn check_digits(digits: &[u8]) -> Result<(), usize>
     Ok(())
 }
 
-/// How long the longest common front is.
+/// The length of the longest common prefix.
 fn common_length(digits: &[u8], others: &[u8]) -> usize
     ensures { IsCommonFront digits.now others.now result }
 {

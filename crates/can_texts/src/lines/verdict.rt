@@ -1,4 +1,4 @@
-//! The lines that tell verdicts and their total.
+//! The output lines for verdicts and their total.
 ghost use Rattle.std.specs.Prelude.{◌≡◌, ◌<◌, false, [], is_err, IfErr, OnOk, OnErr};
 ghost use Rattle.can_stream.specs.Outbox.{PassesOn, TakesFront};
 ghost use Rattle.can_texts.specs.Checked.{total_line, vector_verdict_line};
@@ -8,7 +8,7 @@ use arrayvec::ArrayVec;
 use can_stream::line::{Line, push, push_number};
 use can_stream::{Outbox, Sink, TraceFault};
 
-/// Puts the line of a verdict.
+/// Appends the line of a verdict.
 pub(crate) fn put_verdict<W: Sink>(
     verdict: Verdict,
     w: &mut W,
@@ -40,7 +40,7 @@ fn written_verdict(verdict: Verdict) -> Line
     line
 }
 
-/// Puts the line that tells how many lines passed, of how many.
+/// Appends the line with the number of lines that passed, and of all.
 pub(crate) fn put_total<W: Sink>(
     passed: u64,
     count: u64,
@@ -57,7 +57,7 @@ pub(crate) fn put_total<W: Sink>(
     out.put(w, &written_total(passed, count))
 }
 
-/// The line that tells how many lines passed, of how many.
+/// The line with the number of lines that passed, and of all.
 fn written_total(passed: u64, count: u64) -> Line
     ensures { result.items ≡ total_line passed count }
 {

@@ -18,28 +18,35 @@ use crate::traces::trace::Trace;
 use can_frame::Level;
 use can_stream::{Inbox, Outbox, Sink, Source, TraceFault};
 
-/// Reads a trace, `0` and `1` for its levels, and writes a line for each frame and each fault that is found
-/// in it. A blank, 0x0a and 0x0d are skipped. (Bosch CAN 2.0 part B, sections 3.2.1, 3.2.5 and 7.1)
+/// Reads a trace, and writes a line for each frame and each fault in it. Its levels are `0` and `1`. Spaces, 0x0a
+/// and 0x0d are skipped. (Bosch CAN 2.0 part B, sections 3.2.1, 3.2.5 and 7.1)
 ///
-/// Places count levels from 0. Between frames recessive levels are skipped. Where a frame begins, its line is
-/// its place, its text, ` ack` or ` noack`, and those that hold of ` srr0` (SRR was dominant), ` r1` (r1 was
-/// recessive), ` r0` (r0 was recessive) and ` eof0` (the last level of the end of frame was dominant). Where
-/// none does, at a dominant level, the line is the place, ` fault `, its kind, ` at ` and its own place, and
-/// the search goes on behind the first eleven recessive levels in a row from there on. Each line is ended by
-/// 0x0a. It takes no memory. The reader must have neither failed nor ended before the call, and the writer
-/// must not have failed.
+/// Places count levels from 0. Between frames recessive levels are skipped. The line of a frame has:
 ///
-/// `Ok` comes only where the reader ended in this call. `BadByte` is the place in the input, from 0, of the
-/// first byte that may not stand there. `Read` and `Write` say that the reader or the writer failed; the call
-/// that failed is not tried again. `Long` says that the input has more than 2^63 bytes. All lines before the
-/// fault have been written, but that of a frame in which the levels end, unless it is `Write`: then a
-/// beginning of the answer is written.
+/// - the place at which it begins, and its text;
+/// - ` ack` or ` noack`;
+/// - those of these words that apply: ` srr0` (SRR was dominant), ` r1` (r1 was recessive), ` r0` (r0 was
+///   recessive), ` eof0` (the last level of the end of frame was dominant).
+///
+/// If no frame begins at a dominant level, the line has the place, ` fault `, the kind, ` at ` and the place of
+/// the fault. The search for a frame continues after the first eleven recessive levels in a row from the fault on.
+/// Each line ends with 0x0a.
+///
+/// The call allocates no memory. Before it the reader must not have failed or ended, and the writer must not have
+/// failed. The result is `Ok` only if the reader ended in this call. Errors:
+///
+/// - `BadByte`: the place in the input, from 0, of the first byte that is neither a level nor skipped.
+/// - `Read`, `Write`: the reader or the writer failed. The failed call is not repeated.
+/// - `Long`: the input has more than 2^63 bytes.
+///
+/// All lines before the fault are written, except that of a frame in which the levels end. After `Write`, a prefix
+/// of the output is written.
 pub fn decode_stream<R: Source, W: Sink>(r: &mut R, w: &mut W) -> Result<(), TraceFault>
     requires reader_unfailed { R.has_failed r.old ≡ false }
     requires reader_unended { R.has_ended r.old ≡ false }
     requires writer_unfailed { W.has_failed w.old ≡ false }
 
-    // What was written of what was read.
+    // What was written for what was read.
     ensures ok { OnOk result (Told R.remaining r.old r.new W.contents w.old w.new DecodesAll) }
     ensures read { IsErrOf result TraceFault.Read → Told R.remaining r.old r.new W.contents w.old w.new DecodesSoFar }
     ensures write { IsErrOf result TraceFault.Write → Told R.remaining r.old r.new W.contents w.old w.new BeginsDecoding }
@@ -51,7 +58,7 @@ pub fn decode_stream<R: Source, W: Sink>(r: &mut R, w: &mut W) -> Result<(), Tra
     ensures no_field { (wrong : Field) → IsErrOf result (TraceFault.ScenarioField wrong) → ⊥ }
     ensures no_memory { IsErrOf result TraceFault.Memory → ⊥ }
 
-    // What the reader and the writer came to.
+    // The state of the reader and the writer.
     ensures ended { OnOk result (IsTrue (R.has_ended r.new)) }
     ensures at_end { OnOk result (IsAtEnd (R.remaining r.new)) }
     ensures read_unended { IsErrOf result TraceFault.Read → IsFalse (R.has_ended r.new) }
@@ -67,7 +74,7 @@ pub fn decode_stream<R: Source, W: Sink>(r: &mut R, w: &mut W) -> Result<(), Tra
     decoded
 }
 
-/// Decodes all of the input. The last lines wait in the buffer.
+/// Decodes all of the input. The last lines are still in the buffer.
 fn decode_all<R: Source, W: Sink>(r: &mut R, w: &mut W, out: &mut Outbox) -> Result<(), TraceFault>
     requires reader_unfailed { R.has_failed r.old ≡ false }
     requires reader_unended { R.has_ended r.old ≡ false }
@@ -98,7 +105,8 @@ fn decode_all<R: Source, W: Sink>(r: &mut R, w: &mut W, out: &mut Outbox) -> Res
     }
 }
 
-/// Hears bytes, the first of which has this place in the input. The buffer is for digits that have to be gathered.
+/// Decodes bytes, the first of which has this place in the input. The buffer is for digits that have to be
+/// gathered.
 fn hear_bytes<W: Sink>(
     bytes: &[u8],
     place: u64,
@@ -115,7 +123,7 @@ fn hear_bytes<W: Sink>(
     ensures failed { W.has_failed w.new ≡ is_err_by is_write result }
 {
     let mut index = skipped_count(bytes);
-    // where a run of digits begins
+    // the beginning of the current run of digits
     let mut begun = index;
     let mut short_runs = ShortRuns::none();
     while index < bytes.len() {
@@ -143,7 +151,7 @@ fn hear_bytes<W: Sink>(
     Ok(())
 }
 
-/// Gathers digits at the front of the bytes, as many as it likes, and hears them.
+/// Gathers some digits at the front of the bytes, and decodes them.
 #[inline(never)]
 fn hear_gathered<W: Sink>(
     bytes: &[u8],
@@ -165,7 +173,7 @@ fn hear_gathered<W: Sink>(
     Ok(gathered)
 }
 
-/// Hears the levels at the front of the bytes, up to a byte that is no digit, and answers how many.
+/// Decodes the levels at the front of the bytes, before the first byte that is not a digit, and returns how many.
 fn hear_to_end<W: Sink>(
     bytes: &[u8],
     trace: &mut Trace,
@@ -195,7 +203,7 @@ fn hear_to_end<W: Sink>(
     Ok(index)
 }
 
-/// Hears levels at the front of the bytes of which nothing is told, as many as it likes, and answers how many.
+/// Decodes some levels at the front of the bytes that complete no frame or fault, and returns how many.
 fn hear_levels(bytes: &[u8], trace: &mut Trace) -> usize
     requires { trace.old.place + length bytes.now < 2 ^ 64 }
     ensures within { result ≤ length bytes.now }
@@ -211,8 +219,7 @@ fn hear_levels(bytes: &[u8], trace: &mut Trace) -> usize
     begun + trace.hear_digits(&bytes[begun..])
 }
 
-/// Skips the recessive levels at the front of the bytes, if they stand between frames, and answers how many
-/// they are.
+/// Skips the recessive levels at the front of the bytes, if they are between frames, and returns how many.
 fn skip_row(bytes: &[u8], trace: &mut Trace) -> usize
     requires { trace.old.place + length bytes.now < 2 ^ 64 }
     ensures within { result ≤ length bytes.now }
@@ -228,8 +235,7 @@ fn skip_row(bytes: &[u8], trace: &mut Trace) -> usize
     count
 }
 
-/// Hears the level at the front of the bytes with which a frame begins, if one does there, and answers how many
-/// levels it heard.
+/// Takes the level at the front of the bytes if a frame begins with it, and returns how many levels it took.
 fn hear_start(bytes: &[u8], trace: &mut Trace) -> usize
     requires { trace.old.place + length bytes.now < 2 ^ 64 }
     ensures within { result ≤ length bytes.now }
@@ -244,7 +250,7 @@ fn hear_start(bytes: &[u8], trace: &mut Trace) -> usize
     1
 }
 
-/// Hears one level. It stands within its callers, so that what is found isn't moved about.
+/// Decodes one level. It is inlined, so that the finding is not moved in memory.
 #[inline(always)]
 fn hear_level<W: Sink>(
     level: Level,

@@ -1,4 +1,4 @@
-//! What is told of a trace, and the line that tells it.
+//! A frame or fault in a trace, and its output line.
 ghost use Rattle.std.specs.Prelude.{◌≡◌, ◌+◌, ◌≤◌, ◌++◌, false, [], length, is_err, IfErr, OnOk, OnErr};
 ghost use Rattle.can_stream.specs.Outbox.{PassesOn, TakesFront};
 ghost use Rattle.can_texts.specs.Decoded.{acknowledgement, code_of, deviations, finding_line, word_if};
@@ -8,15 +8,15 @@ use can_code::{CodeFaultKind, Heard};
 use can_stream::line::{LINE, Line, push, push_number};
 use can_stream::{Outbox, Sink, TraceFault};
 
-/// What is told of a place in a trace.
+/// A frame or fault that begins at a place in a trace.
 #[derive(Clone, Copy)]
 pub(crate) enum Finding {
-    /// A frame begins there.
+    /// A frame begins at this place.
     Frame {
         place: u64,
         heard: Heard,
     },
-    /// None does, though a dominant level stands there: this fault shows at the other place.
+    /// No frame begins at this dominant level. The fault shows at the other place.
     Fault {
         place: u64,
         kind: CodeFaultKind,
@@ -24,7 +24,7 @@ pub(crate) enum Finding {
     },
 }
 
-/// Puts the line of what is told. It stands within its caller, so that what is told is never laid out in memory.
+/// Appends the line of a finding. It is inlined, so that the finding is never laid out in memory.
 #[inline(always)]
 pub(crate) fn put_finding<W: Sink>(
     finding: &Finding,
@@ -50,7 +50,7 @@ pub(crate) fn put_finding<W: Sink>(
     out.put(w, &line)
 }
 
-/// Puts the line of a frame that begins at this place together. It stands within its caller for the same reason.
+/// Builds the line of a frame that begins at this place. It is inlined for the same reason.
 #[inline(always)]
 fn push_frame_line(line: &mut Line, place: u64, heard: &Heard)
     requires { line.old.items ≡ [] }
@@ -78,7 +78,7 @@ fn push_acknowledgement(line: &mut Line, acked: bool)
     }
 }
 
-/// Appends which levels were heard otherwise than they are sent.
+/// Appends which levels were received with another value than they are sent with.
 #[inline(always)]
 fn push_deviations(line: &mut Line, heard: &Heard)
     requires { length line.old.items + 16 ≤ LINE }
@@ -91,7 +91,7 @@ fn push_deviations(line: &mut Line, heard: &Heard)
     push_if(line, !heard.last().is_recessive(), b" eof0");
 }
 
-/// Appends a word where something holds.
+/// Appends a word if `holds` is true.
 fn push_if(line: &mut Line, holds: bool, word: &[u8])
     requires { length line.old.items + length word.now ≤ LINE }
     ensures text { line.new.items ≡ line.old.items ++ word_if holds word.now }
@@ -102,7 +102,7 @@ fn push_if(line: &mut Line, holds: bool, word: &[u8])
     }
 }
 
-/// Puts the line of a fault in what begins at this place together.
+/// Builds the line of a fault of the levels that begin at this place.
 fn push_fault_line(line: &mut Line, place: u64, kind: CodeFaultKind, fault_place: u64)
     requires { line.old.items ≡ [] }
     ensures { line.new.items ≡ finding_line (Finding.Fault place kind fault_place) }

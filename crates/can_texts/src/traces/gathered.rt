@@ -1,4 +1,4 @@
-//! Digits that stand between blanks and line ends, gathered so that they are heard in long runs.
+//! Digits between spaces and line ends, gathered so that they are decoded in long runs.
 ghost use Rattle.std.specs.Prelude.{◌≡◌, ◌+◌, ◌≤◌, ◌++◌, map, take};
 ghost use Rattle.can_frame.specs.Levels.{digit_of};
 ghost use Rattle.can_texts.specs.TraceText.{IsTraceText, levels_in};
@@ -7,37 +7,37 @@ ghost use Rattle.can_texts.specs.Decoding.{Gathers};
 use crate::traces::masks::{BLOCK, are_digits, are_skipped, is_digit, is_text};
 use crate::traces::skipped::skipped_count;
 
-/// How many digits are gathered at most. Chosen for speed; a block has to fit in.
+/// The maximum number of gathered digits. Chosen for speed; a block has to fit.
 pub(crate) const GATHERED_ROOM: usize = 512;
 
-/// Behind so many blocks of digits alone, those behind them are likely to stand together too: none is gathered then.
+/// After this number of blocks of digits alone, the following digits are probably adjacent too, and gathering ends.
 /// Chosen for speed alone.
 const DIGIT_BLOCKS: usize = 2;
 
 /// Digits that were gathered into the front of a buffer.
 #[derive(Clone, Copy)]
 pub(crate) struct Gathered {
-    /// How many bytes they were gathered from.
+    /// The number of bytes from which they were gathered.
     pub(crate) taken: usize,
-    /// How many there are.
+    /// The number of digits.
     pub(crate) count: usize,
 }
 
 impl Gathered {
-    /// Whether there is no room for a block more.
+    /// Whether there is no space for another block.
     #[inline(always)]
     pub(crate) fn is_full(&self) -> bool {
         self.count > GATHERED_ROOM - BLOCK
     }
 }
 
-/// Gathers digits at the front of the bytes by whole blocks, as long as there is room and they stand apart, up to a block that
-/// has a byte that may not stand in a trace.
+/// Gathers digits at the front of the bytes by whole blocks. It ends if the buffer is full, if the digits are adjacent,
+/// or before a block with a byte that is not trace text.
 pub(crate) fn gather(bytes: &[u8], digits: &mut [u8; GATHERED_ROOM]) -> Gathered
     ensures { Gathers bytes.now result digits.new }
 {
     let mut now = Gathered { taken: 0, count: 0 };
-    // how many blocks of digits alone stand last
+    // the number of blocks of digits alone, in a row, so far
     let mut row = 0;
     while now.count + BLOCK <= GATHERED_ROOM && row < DIGIT_BLOCKS {
         let Some(block) = bytes[now.taken..].first_chunk::<BLOCK>() else {
@@ -62,8 +62,8 @@ pub(crate) fn gather(bytes: &[u8], digits: &mut [u8; GATHERED_ROOM]) -> Gathered
     now
 }
 
-/// Puts the digits of a block of trace text behind those that have been gathered, and answers how many there are now. No
-/// branch tells them from what is skipped, since none could be foretold.
+/// Appends the digits of a block of trace text to those that have been gathered, and returns how many there are now. No
+/// branch separates them from skipped bytes, since it could not be predicted.
 #[inline]
 fn put_digits(block: &[u8; BLOCK], digits: &mut [u8; GATHERED_ROOM], count: usize) -> usize
     requires room { count + BLOCK ≤ GATHERED_ROOM }

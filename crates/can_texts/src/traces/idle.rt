@@ -4,13 +4,14 @@ ghost use Rattle.std.specs.Simd.Lanes.{mask_l};
 
 use std::simd::prelude::*;
 
-/// How many bytes are compared at once: the bits of the mask, a number that the proofs have too.
+/// The number of bytes that are compared at once: the bits of the mask. The proofs have this number too.
 const BLOCK: usize = 64;
 
-/// How many bytes are compared first, as most rows between frames are short. The proofs have this number too.
+/// The number of bytes that are compared first, since most rows between frames are short. The proofs have this number
+/// too.
 const FIRST: usize = 16;
 
-/// How many digits of recessive levels stand at the front of the bytes.
+/// The number of digits of recessive levels at the front of the bytes.
 pub(crate) fn recessive_count(bytes: &[u8]) -> usize
     ensures within { result ≤ length bytes.now }
     ensures row { take result bytes.now ≡ replicate result 49 }
@@ -36,7 +37,7 @@ pub(crate) fn recessive_count(bytes: &[u8]) -> usize
     count
 }
 
-/// How many digits of recessive levels stand at the front of the bytes, as far as pairs of blocks have nothing else.
+/// The number of digits of recessive levels at the front of the bytes, in whole pairs of blocks.
 fn pairs_count(bytes: &[u8]) -> usize
     ensures within { result ≤ length bytes.now }
     ensures row { take result bytes.now ≡ replicate result 49 }
@@ -48,8 +49,8 @@ fn pairs_count(bytes: &[u8]) -> usize
     count
 }
 
-/// Whether the first two blocks are a row. That needs the masks only as far as both are zero, which takes half of the time of
-/// looking for a place in them.
+/// Whether the first two blocks have only recessive levels. The masks are only compared with zero, which takes half the
+/// time of finding a place in them.
 #[inline(always)]
 fn begin_with_a_row(bytes: &[u8]) -> bool
     requires { 2 * BLOCK ≤ length bytes.now }
@@ -58,7 +59,7 @@ fn begin_with_a_row(bytes: &[u8]) -> bool
     others_in_block(bytes) | others_in_block(&bytes[BLOCK..]) == 0
 }
 
-/// Which of the first bytes are no digits of recessive levels, the first in the lowest bit.
+/// Which of the first bytes are not digits of recessive levels, the first byte in the lowest bit.
 #[inline(always)]
 fn others_at_front(bytes: &[u8]) -> u64
     requires { FIRST ≤ length bytes.now }
@@ -69,7 +70,7 @@ fn others_at_front(bytes: &[u8]) -> u64
         .to_bitmask()
 }
 
-/// Which bytes of the first block are no digits of recessive levels, the first in the lowest bit.
+/// Which bytes of the first block are not digits of recessive levels, the first byte in the lowest bit.
 #[inline(always)]
 fn others_in_block(bytes: &[u8]) -> u64
     requires { BLOCK ≤ length bytes.now }

@@ -1,4 +1,4 @@
-//! Bytes of a block by where they stand in it.
+//! The places of bytes in a block.
 ghost use Rattle.std.specs.Prelude.{◌≡◌, ◌<◌, ◌==◌, ◌||◌, IsTrue, map, not};
 ghost use Rattle.std.specs.Simd.Lanes.{mask_l};
 ghost use Rattle.can_texts.specs.TraceText.{IsTraceText, is_skipped as may_be_skipped};
@@ -6,7 +6,7 @@ ghost use Rattle.can_texts.specs.Decoding.{AreDigits, AreSkipped};
 
 use can_code::places_of;
 
-/// How many bytes are looked at together: the bits of the masks, a number that the proofs have too.
+/// The number of bytes in a block: the bits of the masks. The proofs have this number too.
 pub(crate) const BLOCK: usize = 16;
 
 /// All places of a block, as the bits of a number.
@@ -20,7 +20,7 @@ pub(crate) fn are_digits(block: &[u8; BLOCK]) -> bool
     digits_of(block) == ALL_PLACES
 }
 
-/// Whether the bytes are blanks and line ends.
+/// Whether the bytes are spaces and line ends.
 #[inline]
 pub(crate) fn are_skipped(block: &[u8; BLOCK]) -> bool
     ensures { IsTrue result → AreSkipped block.now }
@@ -36,7 +36,8 @@ pub(crate) fn is_text(block: &[u8; BLOCK]) -> bool
     digits_of(block) + skipped_of(block) == ALL_PLACES
 }
 
-/// Where bytes stand in the block that are neither blanks nor line ends, as the bits of a number, the first in the lowest.
+/// The places of bytes in the block that are neither spaces nor line ends, as the bits of a number, the first place
+/// lowest.
 #[inline]
 pub(crate) fn others_of(block: &[u8; BLOCK]) -> u64
     ensures { result ≡ mask_l (map (λ byte. not (may_be_skipped byte)) block.now) }
@@ -44,7 +45,7 @@ pub(crate) fn others_of(block: &[u8; BLOCK]) -> u64
     ALL_PLACES - skipped_of(block)
 }
 
-/// Where digits stand in the block, as the bits of a number.
+/// The places of digits in the block, as the bits of a number.
 #[inline]
 fn digits_of(block: &[u8; BLOCK]) -> u64
     ensures places { result ≡ mask_l (map (λ byte. byte == 48 || byte == 49) block.now) }
@@ -53,7 +54,7 @@ fn digits_of(block: &[u8; BLOCK]) -> u64
     places_of(block, b'0') + places_of(block, b'1')
 }
 
-/// The same of blanks and line ends.
+/// The places of spaces and line ends in the block, as the bits of a number.
 #[inline]
 fn skipped_of(block: &[u8; BLOCK]) -> u64
     ensures places { result ≡ mask_l (map may_be_skipped block.now) }

@@ -1,23 +1,23 @@
-//! The search for an idle row behind a fault.
+//! The search for an idle row after a fault.
 ghost use Rattle.std.specs.Prelude.{◌≤◌, length, take};
 ghost use Rattle.can_texts.specs.Decoding.{Searches};
 
 use can_frame::IDLE_ROW;
 
-/// How many recessive levels may stand in a row behind a fault before an idle row ends the search.
+/// The maximum number of recessive levels in a row during the search: one more ends it.
 pub(crate) const LONGEST_ROW: u8 = IDLE_ROW - 1;
 
 /// Levels of the search.
 #[derive(Clone, Copy)]
 pub(crate) struct SearchRun {
-    /// How many they are.
+    /// The number of levels.
     pub(crate) taken: usize,
-    /// How many recessive levels in a row end with the last of them.
+    /// The length of the row of recessive levels that the last one ends.
     pub(crate) row: u8,
 }
 
-/// Takes levels from the front of these digits, where so many recessive ones in a row stand before them, up to the
-/// end of the idle row and to a byte that is no digit.
+/// Takes levels from the front of these digits, after `row` recessive ones in a row. It stops before the last
+/// level of the idle row, and before a byte that is not a digit.
 pub(crate) fn search(digits: &[u8], row: u8) -> SearchRun
     ensures within { result.taken ≤ length digits.now }
     ensures searched { Searches row (take result.taken digits.now) result.row }

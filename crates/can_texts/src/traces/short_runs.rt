@@ -1,29 +1,29 @@
-//! When digits are gathered: where the runs in which they stand within frames are short, many of them one behind the other.
+//! When digits are gathered: if many runs of digits within frames are short, one after another.
 
 use crate::traces::gathered::Gathered;
 
-/// A run of so many digits is long: where the bus is busy up to twice as many are heard sooner if they are gathered, but where
-/// it is mostly at rest fewer. Chosen for speed alone.
+/// A run with at least this number of digits is long. On a busy bus, digits are decoded faster by gathering even in
+/// runs of up to twice this length; on a bus that is mostly idle, only in shorter ones. Chosen for speed alone.
 const LONG_RUN: usize = 20;
 
-/// Digits are gathered behind so many short runs. Hearing these takes some twenty times what gathering in vain costs.
-/// Chosen for speed alone.
+/// Digits are gathered after this number of short runs. Decoding these takes some twenty times as long as gathering in
+/// vain. Chosen for speed alone.
 const ENOUGH: usize = 32;
 
-/// How many short runs of digits within frames stood one behind the other.
+/// The number of short runs of digits within frames, one after another.
 #[derive(Clone, Copy)]
 pub(crate) struct ShortRuns {
     count: usize,
 }
 
 impl ShortRuns {
-    /// None yet.
+    /// No run yet.
     pub(crate) fn none() -> ShortRuns {
         ShortRuns { count: 0 }
     }
 
-    /// Whether they are enough behind a run of so many digits. One that doesn't end in a frame, where digits are passed over
-    /// or searched and gain nothing by being gathered, tells nothing.
+    /// Whether there are enough short runs, after a run of `run` digits. A run that does not end in a frame does not
+    /// count: there digits are skipped or searched, and gathering gains nothing.
     #[inline(always)]
     pub(crate) fn are_enough_behind(&mut self, run: usize, is_in_frame: bool) -> bool {
         if !is_in_frame {
@@ -40,7 +40,7 @@ impl ShortRuns {
         true
     }
 
-    /// None any more, if these digits were gathered in vain: there was room for more.
+    /// Starts again if these digits were gathered in vain, that is if there was space for more.
     #[inline(always)]
     pub(crate) fn forget_in_vain(&mut self, gathered: &Gathered) {
         if !gathered.is_full() {

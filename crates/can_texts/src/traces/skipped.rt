@@ -1,14 +1,15 @@
-//! Blanks and line ends between levels, passed over in blocks.
+//! Spaces and line ends between levels, skipped in blocks.
 ghost use Rattle.std.specs.Prelude.{◌≡◌, ◌≤◌, length, take};
 ghost use Rattle.can_texts.specs.TraceText.{is_skipped as may_be_skipped};
 ghost use Rattle.can_texts.specs.Decoding.{AreSkipped};
 
 use crate::traces::masks::{BLOCK, others_of};
 
-/// How many are looked at one by one before that, as most line ends stand alone. Chosen for speed alone.
+/// The number of bytes that are tested one by one first, since most line ends are single. Chosen for
+/// speed alone.
 const FIRST: usize = 3;
 
-/// How many blanks and line ends stand at the front of the bytes.
+/// The number of spaces and line ends at the front of the bytes.
 #[inline(always)]
 pub(crate) fn skipped_count(bytes: &[u8]) -> usize
     ensures within { result ≤ length bytes.now }
@@ -24,7 +25,7 @@ pub(crate) fn skipped_count(bytes: &[u8]) -> usize
     count
 }
 
-/// The same by whole blocks, where many are likely to stand.
+/// Counts them by whole blocks, for long rows.
 #[inline(never)]
 fn row_count(bytes: &[u8]) -> usize
     ensures within { result ≤ length bytes.now }
@@ -44,7 +45,7 @@ fn row_count(bytes: &[u8]) -> usize
     count
 }
 
-/// Whether the byte is a blank or a line end.
+/// Whether the byte is a space or a line end.
 #[inline(always)]
 pub(crate) fn is_skipped(byte: u8) -> bool
     ensures { result ≡ may_be_skipped byte }

@@ -1,4 +1,4 @@
-//! A trace as it is heard, level by level.
+//! A trace as it is decoded, level by level.
 ghost use Rattle.std.specs.Prelude.{◌≡◌, ◌+◌, ◌^◌, ◌<◌, ◌≤◌, ◌∷◌, ◌++◌, [], length, take, replicate, List, IsTrue};
 ghost use Rattle.can_texts.specs.TraceText.{IsTraceText, levels_in};
 ghost use Rattle.can_frame.specs.declared.level.Level.{Level as Bit};
@@ -11,7 +11,7 @@ use crate::traces::searching::{LONGEST_ROW, search};
 use can_code::{CodeFaultKind, Decoder, PackedBits};
 use can_frame::{IDLE_ROW, Level};
 
-/// Where a trace stands.
+/// The state of a trace.
 #[derive(Drop)]
 enum State {
     /// Between frames.
@@ -21,22 +21,22 @@ enum State {
         start: u64,
         decoder: Decoder<PackedBits>,
     },
-    /// Behind a fault, and behind so many recessive levels in a row.
+    /// After a fault, with this number of recessive levels in a row.
     Lost {
         row: u8,
     },
 }
 
-/// A trace of which some levels have been heard.
+/// A trace of which some levels have been taken.
 #[derive(Drop)]
 pub(crate) struct Trace {
     state: State,
-    /// How many levels have been heard.
+    /// The number of levels taken.
     place: u64,
 }
 
 impl Trace {
-    /// No level has been heard.
+    /// No level has been taken.
     pub(crate) fn begin() -> Trace
         ensures { Hearing result [] [] }
     {
@@ -46,19 +46,19 @@ impl Trace {
         }
     }
 
-    /// Whether the next level stands between frames.
+    /// Whether the next level is between frames.
     pub(crate) fn is_idle(&self) -> bool
         ensures { IsTrue result → self.now.state ≡ State.Idle }
     {
         matches!(self.state, State::Idle)
     }
 
-    /// Whether the next level stands in a frame.
+    /// Whether the next level is in a frame.
     pub(crate) fn is_in_frame(&self) -> bool {
         matches!(self.state, State::InFrame { .. })
     }
 
-    /// Hears recessive levels between frames.
+    /// Takes recessive levels between frames.
     pub(crate) fn skip(&mut self, count: usize)
         requires idle { self.old.state ≡ State.Idle }
         requires fits { self.old.place + count < 2 ^ 64 }
@@ -68,7 +68,7 @@ impl Trace {
         self.place += count as u64;
     }
 
-    /// Hears the level between frames with which a frame begins.
+    /// Takes the level between frames with which a frame begins.
     pub(crate) fn begin_frame(&mut self)
         requires idle { self.old.state ≡ State.Idle }
         requires fits { self.old.place + 1 < 2 ^ 64 }
@@ -82,7 +82,7 @@ impl Trace {
         self.place += 1;
     }
 
-    /// Hears the next level, and tells of the frame or the fault that ends with it.
+    /// Takes the next level, and returns the frame or the fault that it completes.
     #[inline(always)]
     pub(crate) fn hear(&mut self, level: Level) -> Option<Finding>
         requires { self.old.place + 1 < 2 ^ 64 }
@@ -129,8 +129,8 @@ impl Trace {
         }
     }
 
-    /// Hears levels from the front of these digits within a frame or behind a fault, as many as it likes, and
-    /// answers how many. Nothing is told of them.
+    /// Takes some levels from the front of these digits, within a frame or after a fault, and returns how
+    /// many. They complete no frame or fault.
     #[inline(never)]
     pub(crate) fn hear_digits(&mut self, digits: &[u8]) -> usize
         requires { self.old.place + length digits.now < 2 ^ 64 }
@@ -152,7 +152,7 @@ impl Trace {
         heard
     }
 
-    /// What is told of the frame in which the trace stands, if no level comes any more.
+    /// The fault of the frame that is open, if no more levels come.
     pub(crate) fn open_fault(&self) -> Option<Finding>
         ensures { (levels : List Bit) (told : List Findings) → Hearing self.now levels told → EndsWith levels told (told_of result) }
     {
@@ -167,7 +167,7 @@ impl Trace {
     }
 }
 
-/// Where a trace stands behind a fault, so many recessive levels in a row, and this level.
+/// The state after a fault, `row` recessive levels in a row, and this level.
 fn searched(row: u8, level: Level) -> State
     ensures { (done : List Bit) (told : List Findings) → row < IDLE_ROW → let begun = replicate row Recessive ++ level ∷ [] in
         SearchesOn begun done told → Stands result (done ++ begun) told }

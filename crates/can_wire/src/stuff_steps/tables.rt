@@ -2,7 +2,7 @@
 
 use can_frame::Level;
 
-/// How many levels a row of [`FIVE_LEVELS`] has.
+/// The number of levels in a row of [`FIVE_LEVELS`].
 pub(super) const FIVE: usize = 5;
 
 /// A dominant level.
@@ -47,9 +47,10 @@ pub(super) static FIVE_LEVELS: [[Level; FIVE]; 32] = [
     [R, R, R, R, R],
 ];
 
-/// Each byte's levels with their stuff bits, a row for each level and length of the run before them. The lowest ten bits
-/// begin with the levels, the first of them the highest; the next two say how many stuff bits are among them, and the
-/// next three the row for what comes behind them: four times the last level, and the length of its run less one.
+/// Each byte's levels with their stuff bits, with a row for each level and length of the run before them. The lowest
+/// ten bits of an entry begin with the levels, the first level highest. The next two bits are the number of stuff bits
+/// among them. The next three are the row for the following levels: four times the last level, plus the length of its
+/// run minus one.
 pub(super) static STUFFED_OCTETS: [u16; 2048] = [
     0x3420, 0x4422, 0x0424, 0x5426, 0x1428, 0x442a, 0x042c, 0x642e, 0x2430, 0x4432, 0x0434, 0x5436,
     0x1438, 0x443a, 0x043c, 0x083e, 0x3040, 0x4044, 0x0048, 0x504c, 0x1050, 0x4054, 0x0058, 0x605c,

@@ -2,7 +2,7 @@ use Rattle.std.proofs.Common.{◌≡◌, ◌+◌, ◌++◌, length, take}
 use Rattle.can_fields.specs.Marks.{tail_marks}
 use Rattle.can_fields.proofs.mark.push_tail.Given as goal
 
--- so many marks of the ten are written
+-- this number of marks of the ten are written
 abbrev pub invariant-loop-place : goal.invariant-loop-place
 invariant-loop-place l = record {
   items : l.marks.items ≡ l.fn.marks.items ++ take l.place tail_marks;

@@ -3,7 +3,7 @@ use Rattle.can_code.specs.Front.{first_front}
 use Rattle.can_fields.specs.Marks.{heard_to}
 use Rattle.can_fields.proofs.mark.unstuffed.Given as goal
 
--- the levels up to here are heard, and the rest will be as far as it goes
+-- the levels so far are received, and the rest will be as far as it goes
 abbrev pub invariant-loop-level : goal.invariant-loop-level
 invariant-loop-level l = record {
   bits : l.bits ≡ l.front.unstuffed;

@@ -3,7 +3,7 @@ use Rattle.can_frame.specs.Levels.{bits_of}
 use Rattle.can_wire.specs.Crc.{crc_of}
 use Rattle.can_wire.proofs.crc_places.crc_of_number.Given as goal
 
--- the check sequence of the bytes that have been taken, the lowest of the number
+-- the CRC sequence of the bytes that have been taken, the lowest of the number
 abbrev pub invariant-loop-place : goal.invariant-loop-place
 invariant-loop-place l = record {
   range : l.check < 2 ^ 15;

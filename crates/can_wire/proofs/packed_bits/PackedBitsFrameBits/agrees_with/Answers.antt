@@ -15,7 +15,7 @@ overflow_mul-number c =
     let power : 2 ^ length c.args.self.now ≤ 2 ^ 118 = pow_mono c.number.ensures.few in
     omega (arith, c.number.ensures.small, power)
 
--- the number with the level behind it
+-- the number with the level appended
 more : (x bit : ℕ) (recessive : Bool) (level : Level) → bit ≡ bool_byte recessive → recessive ≡ is_recessive level → 2 * x + bit ≡ 2 * x + bool_byte (is_recessive level)
 more x bit recessive level of_bit of_level = ap (λ b. 2 * x + b) (of_bit ∙ ap bool_byte of_level)
 

@@ -8,7 +8,7 @@ use Rattle.can_wire.proofs.PackedLemmas.{IsPut, is_put}
 use Rattle.can_wire.proofs.RegisterWord.{level_bits, level_byte-lt}
 use Rattle.can_wire.proofs.packed_bits.PackedBitsFrameBits.push.Goals as goal
 
--- the level is put behind those that are there
+-- the level is appended to those that are there
 module _ (n x : ℕ) (level : Level) (few : n ≤ 118) (small : x < 2 ^ 128) (behind : drop n (bits_of 128 x) ≡ replicate (128 - n) Dominant) where
   put : (z read bit : ℕ) (recessive : Bool) → z ≡ read + bit * 2 ^ (127 - n) % 2 ^ 128 → read ≡ x → bit ≡ bool_byte recessive → recessive ≡ is_recessive level
       → IsPut n 1 x (bool_byte (is_recessive level)) z

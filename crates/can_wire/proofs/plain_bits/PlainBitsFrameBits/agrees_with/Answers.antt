@@ -11,7 +11,7 @@ use Rattle.can_wire.proofs.RegisterWord.{level_byte-lt}
 use Rattle.can_wire.proofs.plain_bits.PlainBitsFrameBits.agrees_with.Goals as goal
 use Rattle.can_wire.proofs.plain_bits.PlainBitsFrameBits.agrees_with.Goals.{After-number}
 
--- the fourteen last levels stand apart
+-- the fourteen last levels are apart
 place : (c : After-number) → c.len.result - 14 ≡ length c.args.self.now - 14
 place c = ap (λ t. t - 14) (c.len.ensures.value ∙ ap length c.self.view_is)
 
