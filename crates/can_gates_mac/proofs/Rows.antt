@@ -13,11 +13,11 @@ use Rattle.can_gates_mac.specs.Nibbles.{nibble}
 use Rattle.can_gates_mac.specs.Numbers.{Numbers}
 use Rattle.can_gates_mac.specs.Stepping.{state_numbers}
 
--- the numbers behind a level that this controller sees while nothing waits
+-- the numbers after a level that this controller samples while no frame is pending
 abbrev behind : MacState → Level → Numbers
 behind m x = state_numbers (mac_step m None x).0 (mac_step m None x).1
 
--- a phase and a place of a receiver or a sender, and what is told
+-- a phase and a place of a receiver or a transmitter, and the event
 abbrev row : ℕ → ℕ → Bool → ℕ → Numbers
 row phase place sends event = record { phase = phase; place = place; last = false; unacknowledged = false; first = false; sender = sends; pending = 0; used = 0; cause = 0; event = event }
 

@@ -1,4 +1,4 @@
--- To believe: what public calls promise is said in these words
+-- To believe: the contracts of public calls are stated in these definitions
 pub mod Nibbles
 pub mod Numbers
 pub mod Shown
