@@ -11,7 +11,7 @@ use Rattle.can_gates_controller.specs.Steps.{ControllerStep, asked, state_behind
 abbrev passing : Level → ControllerStep
 passing level = record { reset = false; joins = false; enable = true; wish = None; waiting = None; level = level }
 
--- at a reset nothing else counts
+-- at a reset no other input has an effect
 reset_idles : state_behind joining (record (passing Recessive) { reset = true }) ≡ idle
 reset_idles = refl
 

@@ -1,4 +1,4 @@
--- To believe: what public calls promise is said in these words
+-- To believe: the contracts of public calls are stated in these definitions
 pub mod Fronts
 pub mod Holding
 pub mod Whole
