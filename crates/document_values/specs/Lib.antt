@@ -1,4 +1,4 @@
--- To believe: what public calls and laws promise is said in these words
+-- To believe: the contracts of public calls and laws are stated in these definitions
 pub mod Demands
 pub mod Values
 pub mod Refusals
