@@ -83,8 +83,8 @@ fn tell(event: &Option<Event>, frame: &mut PlainFrame)
 }
 
 /// Passes one bit time for each of these levels: the port samples them, whatever it drives. The call writes the level
-/// that the port drove in each bit time, and the number of each event. All three slices have the same length. A level
-/// that is neither 0 nor 1 is refused before the first one is sampled.
+/// that the port drove in each bit time, and the number of each event. All three slices must have the same length. A
+/// level that is neither 0 nor 1 is refused before the first one is sampled.
 #[tactic(auto, using(crate::proofs::StatusLemmas::done_only, crate::proofs::StatusLemmas::not_done))]
 #[unsafe(no_mangle)]
 pub extern "C" fn can_c_run(

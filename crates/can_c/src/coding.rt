@@ -43,7 +43,7 @@ pub extern "C" fn can_c_encode(frame: &PlainFrame, levels: &mut [u8], count: &mu
 /// Decodes the frame with which the levels begin: writes the frame as received, and how many levels it has. If the
 /// levels begin with no frame, the status is the first fault, and `place` is how many levels come before the first
 /// wrong one. The call reads only the first 157 levels: no frame has more, and later ones change neither the frame nor
-/// the fault. If one of these is neither 0 nor 1, it is refused, and nothing is written.
+/// the fault. If one of these is neither 0 nor 1, the call is refused, and nothing is written.
 #[tactic(auto, using(crate::proofs::StatusLemmas::fault_not_done))]
 #[unsafe(no_mangle)]
 pub extern "C" fn can_c_decode(levels: &[u8], heard: &mut PlainHeard, place: &mut usize) -> u8

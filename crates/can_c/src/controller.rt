@@ -27,8 +27,8 @@ impl Model for Controller {
 }
 
 impl Controller {
-    /// Returns a port that is on the bus and idle, with this capacity of its transmit queue, in frames, and of its log,
-    /// in entries. It fails only if an allocation fails, and then keeps no memory.
+    /// Returns a port that is on the bus and idle. Its transmit queue has space for `queue` frames, its log for `log`
+    /// entries. It fails only if an allocation fails, and then keeps no memory.
     pub fn idle(alloc: Global, queue: usize, log: usize) -> Result<Controller, AllocError>
         ensures port { IfOk result (λ c. c ≡ fresh_port idle_state queue log) }
         ensures no_rooms { queue ≡ 0 → log ≡ 0 → IsOk result }
@@ -39,8 +39,8 @@ impl Controller {
     }
 
     /// Returns a port that begins with bus integration: it waits for eleven recessive levels in a row before it takes
-    /// part. It has this capacity of its transmit queue, in frames, and of its log, in entries. It fails only if an
-    /// allocation fails, and then keeps no memory.
+    /// part. Its transmit queue has space for `queue` frames, its log for `log` entries. It fails only if an allocation
+    /// fails, and then keeps no memory.
     pub fn joining(alloc: Global, queue: usize, log: usize) -> Result<Controller, AllocError>
         ensures port { IfOk result (λ c. c ≡ fresh_port joining_state queue log) }
         ensures no_rooms { queue ≡ 0 → log ≡ 0 → IsOk result }
@@ -90,7 +90,7 @@ impl Controller {
         self.node.sample(seen)
     }
 
-    /// Queues a frame after the pending ones. A full queue returns it, and nothing changes.
+    /// Queues a frame at the end of the transmit queue. A full queue returns it, and nothing changes.
     pub fn offer(&mut self, frame: Frame) -> Result<(), Frame>
         ensures fits { IsOk result ↔ (length self.old.queue < self.old.queue_room) }
         ensures taken { OnOk result (self.new ≡ port_offered frame self.old) }
@@ -117,7 +117,7 @@ impl Controller {
         self.node.log()
     }
 
-    /// Returns for how many entries the log had no capacity.
+    /// Returns the number of entries for which the log had no capacity.
     pub fn missed(&self) -> u32
         ensures { result ≡ self.now.missed }
     {

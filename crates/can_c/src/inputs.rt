@@ -34,8 +34,9 @@ pub struct PlainHit {
     pub offset: u64,
     /// Kind 2: the index of the port; the first is 0.
     pub port: usize,
-    /// 0: the level of the bus is inverted at a time. 1: it is inverted in an attempt. 2: one port alone samples its
-    /// inverse.
+    /// 0: for all nodes, the level of the bus is inverted in bit time `time`. 1: for all nodes, it is inverted `offset`
+    /// bit times after the start of transmission attempt `attempt`, unless a later attempt has begun by then. 2: port
+    /// `port` alone samples the inverse of the bus level, in bit time `time`.
     pub kind: u8,
 }
 

@@ -1,9 +1,9 @@
 //! The controller, the encoder and decoder of frames, and the bus, as a static library for C.
 //!
-//! Each export does what one call of can_node, can_code or can_bus does. Its contract uses the same definitions.
-//! Arguments are numbers, structs of numbers and slices of them: a port is a [`Handle`], a frame a [`PlainFrame`], a
-//! level the number 0 or 1. A number outside the range of its field is refused with a [`Status`], and then nothing
-//! changes.
+//! Each export does what a call of can_node, can_code, can_bus or can_conform does. Its contract uses the same
+//! definitions. Arguments are numbers, structs of numbers and slices of them: a port is a [`Handle`], a frame a
+//! [`PlainFrame`], a level the number 0 or 1. A number outside the range of its field is refused with a [`Status`], and
+//! then nothing changes.
 //!
 //! | File | What it has | Defined in |
 //! |---|---|---|

@@ -23,10 +23,11 @@ use std::alloc::{AllocError, Global};
 /// The most ports that a bus may have.
 const MOST_PORTS: usize = 64;
 
-/// Runs a bus of the ports of these handles for as many bit times as `levels` has elements. Frames are queued and bit errors injected as by
-/// [`Bus::play_disturbed`]. It writes the level of the bus in each bit time, and how many offers a full queue refused. Each port continues from its
-/// present state, and its handle holds it afterwards. The bus counts as recessive for eleven bit times before the call. If anything is refused, or
-/// there is no memory, nothing has run. The memory that the call allocates is freed before it returns.
+/// Runs a bus of the ports of these handles, one bit time for each element of `levels`. Frames are queued and bit
+/// errors injected as by [`Bus::play_disturbed`]. It writes the level of the bus in each bit time, and how many offers
+/// a full queue refused. Each port continues from its present state, and its handle holds it afterwards. The bus counts
+/// as recessive for eleven bit times before the call. If anything is refused, or there is no memory, nothing has run.
+/// The memory that the call allocates is freed before it returns.
 #[tactic(auto, using(crate::proofs::StatusLemmas::done_only, crate::proofs::StatusLemmas::not_done))]
 #[unsafe(no_mangle)]
 pub extern "C" fn can_c_play(

@@ -11,7 +11,7 @@ use crate::plain::PlainFrame;
 use crate::status::Status;
 use std::alloc::Global;
 
-/// Makes a port that is on the bus and idle, with this capacity of its transmit queue, in frames, and of its log, in
+/// Makes a port that is on the bus and idle. Its transmit queue has space for `queue` frames, its log for `log`
 /// entries. The port that the handle held is freed. If there is no memory, nothing changes.
 #[unsafe(no_mangle)]
 pub extern "C" fn can_c_idle(alloc: Global, handle: &mut Handle, queue: usize, log: usize) -> u8
@@ -26,8 +26,8 @@ pub extern "C" fn can_c_idle(alloc: Global, handle: &mut Handle, queue: usize, l
 }
 
 /// Makes a port that begins with bus integration: it waits for eleven recessive levels in a row before it takes part.
-/// It has this capacity of its transmit queue, in frames, and of its log, in entries. The port that the handle held is
-/// freed. If there is no memory, nothing changes.
+/// Its transmit queue has space for `queue` frames, its log for `log` entries. The port that the handle held is freed.
+/// If there is no memory, nothing changes.
 #[unsafe(no_mangle)]
 pub extern "C" fn can_c_joining(alloc: Global, handle: &mut Handle, queue: usize, log: usize) -> u8
     ensures answers { result ≢ done → result ≡ status_code Status.NoMemory }
@@ -93,8 +93,7 @@ pub extern "C" fn can_c_free(alloc: Global, handle: &mut Handle)
     drop(handle.take(alloc));
 }
 
-/// Queues a frame for transmission, after those that were queued before. If the call is refused, the port does not
-/// change.
+/// Queues a frame for transmission, at the end of the queue. If the call is refused, the port does not change.
 #[tactic(auto, using(crate::proofs::StatusLemmas::done_only, crate::proofs::StatusLemmas::not_done))]
 #[unsafe(no_mangle)]
 pub extern "C" fn can_c_offer(alloc: Global, handle: &mut Handle, frame: &PlainFrame) -> u8

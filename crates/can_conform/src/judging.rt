@@ -169,7 +169,7 @@ fn is_level(levels: &[Level], ought: Option<Level>, time: u32) -> bool
     levels.get(time as usize).copied() == ought
 }
 
-/// Whether an element of the list has this time. All elements before `place` are earlier.
+/// Whether an element of the list has this time. The elements before `place` are earlier, the others are not.
 fn comes<T>(list: &Option<Vec<Timed<T>>>, place: usize, time: u32) -> bool
     requires rising { IfSome list.now (λ list. AreRising list.items) }
     requires reached { IfSome list.now (λ list. HasWalked list.items place time) }
@@ -182,7 +182,7 @@ fn comes<T>(list: &Option<Vec<Timed<T>>>, place: usize, time: u32) -> bool
     }
 }
 
-/// Whether the element at this place has this time. All elements before `place` are earlier.
+/// Whether the element at this place has this time. The elements before it are earlier, the others are not.
 fn is_next<T>(list: &[Timed<T>], place: usize, time: u32) -> bool
     requires rising { AreRising list.now }
     requires reached { HasWalked list.now place time }
@@ -261,7 +261,7 @@ fn counters_difference(
     Some(Difference::Counters { told, ought })
 }
 
-/// The counters that the transcript lists last, this bit time included.
+/// The counters that the transcript lists last, up to and including this bit time.
 #[tactic(auto, using(crate::proofs::TimedLemmas::told_before_more))]
 fn counters_told(counters: &[Timed<Counters>], progress: &mut Progress, time: u32) -> Counters
     requires rising { AreRising counters.now }
@@ -278,7 +278,7 @@ fn counters_told(counters: &[Timed<Counters>], progress: &mut Progress, time: u3
     told
 }
 
-/// The element of this time, if there is one. All elements before `place` are earlier.
+/// The element of this time, if there is one. The elements before `place` are earlier, the others are not.
 fn next_at<T: Copy>(list: &[Timed<T>], place: &mut usize, time: u32) -> Option<T>
     requires rising { AreRising list.now }
     requires reached { HasWalked list.now place.old time }

@@ -10,11 +10,11 @@
 //!
 //! - [`expect`] returns what the reference does in a case, a [`Transcript`].
 //! - [`judge`] compares the transcript of another controller with it, if its [times rise](Transcript::is_told). It
-//!   returns the first difference, a [`Failure`], with the phase of the reference before that bit time and the rule of
-//!   docs/ACCESS.md that decides in it.
-//! - [`started_node`] returns the reference itself, for a case that is played while it comes. It gets frames with
-//!   `offer` and overload requests with `hold`, as any port. [`meet`] passes one bit time with the tester, and
-//!   [`ending_of`] returns its state and counters.
+//!   returns a pass, or the first difference: a [`Failure`], with the phase of the reference before that bit time and
+//!   the rule of docs/ACCESS.md that decides in it.
+//! - [`started_node`] returns the reference itself, for a case that comes bit by bit. It gets frames with `offer` and
+//!   overload requests with `hold`, as any port. [`meet`] passes one bit time with the tester, and [`ending_of`]
+//!   returns its state and counters.
 //!
 //! | File | What it has | Defined in |
 //! |---|---|---|

@@ -10,7 +10,7 @@ use can_mac::Event;
 use can_node::{PackedNode, Port};
 use std::alloc::{AllocError, Global};
 
-/// The capacity of the reference's queue: a case offers at most 256 frames.
+/// The capacity of the reference's queue: a case of the kit offers at most 256 frames.
 const QUEUE_ROOM: usize = 256;
 
 /// What a controller does in one bit time.

@@ -21,8 +21,8 @@ pub enum TesterLevel {
     Forced,
 }
 
-/// A case as it is played: what the tester does in each bit time, the frames that are queued at the controller, and its
-/// requests for overload frames, each at the beginning of its bit time.
+/// A case as it is played: what the tester does in each bit time, and the frames and overload requests that the
+/// controller gets, each at the beginning of its bit time.
 #[derive(Debug, Drop)]
 pub struct Script {
     pub start: Start,

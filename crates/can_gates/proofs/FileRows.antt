@@ -1,4 +1,4 @@
--- The definitions computed on bytes that were worked out by hand.
+-- Hand-computed test vectors: the definitions computed on bytes.
 use Rattle.std.proofs.Common.{◌≡◌, ℕ, true, false, List, [], ◌∷◌, ◌++◌, codes, refl}
 use Rattle.can_gates.specs.declared.literal.Literal.{Literal}
 use Rattle.can_gates.specs.declared.circuit.Gate.{Gate}

@@ -48,7 +48,7 @@ names_text n =
 abbrev pub ascii_text : Names → CircuitParts → List Register → List Literal → List ℕ
 ascii_text n c registers outputs = aiger_text c registers outputs ++ names_text n
 
--- ---- what the reader of lines makes of them
+-- ---- how the reader of lines reads them
 
 abbrev pub symbol_words : Symbol → List (List ℕ)
 symbol_words s = (s.kind ++ decimal s.place) ∷ s.name ∷ []

@@ -116,9 +116,9 @@ impl Circuit {
         self.lack.is_none()
     }
 
-    /// For any input values, the run of a complete circuit is an assignment that keeps it and has these input values.
-    /// So statements about assignments that keep a circuit are never empty. Conversely, an assignment that keeps the
-    /// circuit is the run of its own values. A law: it does nothing.
+    /// For any input values, the run of a complete circuit is an assignment that keeps it. In this assignment the
+    /// inputs have these values. So statements about assignments that keep a circuit are never empty. Conversely, an
+    /// assignment that keeps the circuit is the run of its own values. A law: it does nothing.
     pub fn is_kept_by_its_run(&self)
         ensures keeps { (inputs : ℕ → Bool) → self.now.lack ≡ None → inputs 0 ≡ false → Keeps (run self.now.gates inputs) self.now }
         ensures inputs { (inputs : ℕ → Bool) (s : ℕ) → s ≤ self.now.inputs → run self.now.gates inputs s ≡ inputs s }

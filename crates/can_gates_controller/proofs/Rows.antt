@@ -21,7 +21,7 @@ reset_joins = refl
 reset_tells_nothing : told_in idle (record (passing Dominant) { reset = true }) ≡ None
 reset_tells_nothing = refl
 
--- without a bit time nothing changes: neither does a wish
+-- without a bit time nothing changes, also with a request
 rests : state_behind idle (record (passing Dominant) { enable = false; wish = Some 1 }) ≡ idle
 rests = refl
 
@@ -34,7 +34,7 @@ counts_two : state_before joining (λ t. passing Recessive) 2 ≡ starting (Join
 unfolding mac_step
 counts_two = refl
 
--- two own overload frames may be asked for, and three not
+-- two own overload frames may be requested, but not three
 two_wishes : asked (Some 2) idle ≡ holding 2 idle
 two_wishes = refl
 

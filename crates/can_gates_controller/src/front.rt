@@ -26,7 +26,8 @@ const STANDARD_LENGTH: u64 = 34;
 /// How many an extended frame without data has.
 const EXTENDED_LENGTH: u64 = 54;
 
-/// Returns the received frame with one more level, and whether that level is a stuff bit and repeats the last one.
+/// Returns the received frame with one more level. Also returns whether that level is a stuff bit, and whether it
+/// repeats the last one.
 pub fn hear(circuit: &mut Circuit, heard: &Heard, seen: Literal) -> (Heard, StuffPlace)
     ensures { Makes circuit.old circuit.new (λ v. (front : FrontParts) (x : Level) → HoldsFront v heard.now front → front.run ≤ 5 → length front.unstuffed < 127 → value v seen ≡ is_recessive x → HearsFront v result.0 result.1 front x) }
 {

@@ -13,7 +13,7 @@ use can_gates::{Circuit, FALSE, Literal, TRUE, literal_at};
 /// The most bits of a frame from the start of frame to the end of the data field.
 const PLACES: usize = 103;
 
-/// Returns the bits of the frame with these fields, from the start of frame to the end of the data field.
+/// Returns the head of the frame with these fields: its bits from the start of frame to the end of the data field.
 pub fn levels_of(circuit: &mut Circuit, fields: &Fields) -> [Literal; 103]
     ensures { Makes circuit.old circuit.new (λ v. HoldsLevels v result (head (frame_in v fields.now))) }
 {

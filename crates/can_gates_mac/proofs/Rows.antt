@@ -1,5 +1,5 @@
--- The numbers that registers take, computed on controllers and levels whose outcome is worked out by hand.
--- (Bosch CAN 2.0 part B, sections 3.2.3 to 3.2.5 and 8)
+-- Hand-computed test vectors: the next values of registers, for controllers and levels. (Bosch CAN 2.0 part B, sections
+-- 3.2.3 to 3.2.5 and 8)
 use Rattle.std.proofs.Common.{◌≡◌, ℕ, Bool, true, false, cond, eqb, None, refl}
 use Rattle.can_frame.specs.declared.level.Level.{Level}
 use Rattle.can_frame.specs.declared.level.Level.TheVariants.{Dominant, Recessive}
@@ -53,7 +53,8 @@ joined : behind (receiver (Joining 10)) Recessive ≡ row 0 0 false 0
 unfolding mac_step
 joined = refl
 
--- a sender's bit error in the CRC delimiter: its flag is active at a TEC of 127, passive at 128, and at 248 it goes off
+-- a transmitter's bit error in the CRC delimiter: its flag is active at a TEC of 127, passive at 128, and at 248 it
+-- becomes bus-off
 active_at_127 : behind (with_tec 127 (sender (CrcDelimiter read_001))) Dominant ≡ row 7 0 true 4
 unfolding mac_step
 active_at_127 = refl

@@ -12,7 +12,8 @@ use crate::registers::Controller;
 use crate::wires::Wires;
 
 /// Registers that take the values of a step hold the controller after it. Registers that are all 0 hold an idle
-/// controller; with the phase of joining they hold a joining one. A law: it does nothing.
+/// controller; those that are 0 except for the phase, which is that of joining, hold a joining one. A law: it does
+/// nothing.
 pub fn a_step_is_the_next_state()
     ensures next { (v : ℕ → Bool) (k : ControllerOf) (after : MacState × Option Event) → IsStep v k after → Holds v k after.0 }
     ensures idle { state_numbers idle None ≡ reset_numbers 0 }

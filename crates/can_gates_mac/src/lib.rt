@@ -2,11 +2,11 @@
 //! level, in gates.
 //!
 //! Registers hold a controller as a [`Controller`]: `specs/Numbers.antt` gives numbers to phases, places, causes and
-//! events. A place is how many bits of the phase have passed. A cause is what the error counters count. [`step`] makes
-//! the gates from these registers and the inputs of a bit time to the next values of the registers. In each assignment
-//! that keeps the circuit they are can_mac's `mac_step`: for any controller in the registers, any pending frame and any
-//! sampled level. What is read of a frame on the bus are inputs, [`Inputs`] and [`Sends`]: can_gates_controller has the
-//! registers of that frame.
+//! events. A place is how many bits of the phase have passed, or how many levels in a row it has counted. A cause is
+//! what the error counters count. [`step`] makes the gates from these registers and the inputs of a bit time to the
+//! next values of the registers. In each assignment that keeps the circuit they are can_mac's `mac_step`: for any
+//! controller in the registers, any pending frame and any sampled level. What is read of a frame on the bus are inputs,
+//! [`Inputs`] and [`Sends`]: can_gates_controller has the registers of that frame.
 //!
 //! | File | What it has | Defined in |
 //! |---|---|---|

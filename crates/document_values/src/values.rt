@@ -97,7 +97,7 @@ pub fn number(value: &Value, limit: u64) -> Option<u64>
     (number <= limit).then_some(number)
 }
 
-/// Returns the number of a field that may not be left out, if it is a whole number from 0 to the limit.
+/// Returns the number of a required field, if it is a whole number from 0 to the limit.
 pub fn required_number(fields: &Table, name: &str, limit: u64) -> Option<u64>
     ensures said { IfSome result (λ n. IsRequired (IsNumber n) (named name.now (table (table_view fields.now)))) }
     ensures within { IfSome result (λ n. n ≤ limit) }

@@ -117,23 +117,23 @@ fn push_groups(text: &mut Text, number: u64, most: u32)
     text.push_byte((rest % 128) as u8);
 }
 
-/// The gates of a circuit are recovered from the bytes of its binary file, if they are in order. A law: it does
-/// nothing.
+/// A reader recovers the gates of a circuit from the bytes of its binary file. The gates must be in order, and signals
+/// below 2^32. A law: it does nothing.
 pub fn gates_are_read_back()
     ensures { (c : CircuitParts) (behind : List ℕ) → IsOrdered c.inputs c.highest c.gates → c.highest < 2 ^ 32
         → gates_in (length c.gates) (c.inputs + 1) (flat_map gate_bytes (reverse c.gates) ++ behind) ≡ reverse c.gates }
 {}
 
-/// The lines of numbers, the names and the comment of an ASCII file are recovered, if names and meanings are readable,
-/// and the numbers below 2^64. The first line is the header. A law: it does nothing.
+/// A reader recovers the numbers, the names and the comment of an ASCII file. Names and meanings must be readable, and
+/// numbers below 2^64. The first line of numbers is the header. A law: it does nothing.
 pub fn ascii_files_are_read_back()
     ensures { (n : AllNames) (c : CircuitParts) (registers : List RegisterParts) (outputs : List Side) → AreReadable n → AreLines (file_lines c registers outputs)
         → read_ascii (ascii_text n c registers outputs) ≡ record { numbers = file_lines c registers outputs; names = names_lines n } }
 {}
 
-/// The lines of numbers, the gates, the names and the comment of a binary file are recovered, if names and meanings are
-/// readable, the numbers below 2^64, and the gates in order, and if there are no more registers than inputs. A law: it
-/// does nothing.
+/// A reader recovers the numbers, the gates, the names and the comment of a binary file. Names and meanings must be
+/// readable, numbers below 2^64, the gates in order, and signals below 2^32. There must be no more registers than
+/// inputs. A law: it does nothing.
 pub fn binary_files_are_read_back()
     ensures { (n : AllNames) (c : CircuitParts) (registers : List RegisterParts) (outputs : List Side) → AreReadable n → AreLines (file_lines c registers outputs)
         → IsOrdered c.inputs c.highest c.gates → c.highest < 2 ^ 32 → length registers ≤ c.inputs

@@ -110,7 +110,8 @@ pub(crate) fn push_line(text: &mut Text, first: u64, others: &[u64])
     text.push(b"\n");
 }
 
-/// The lines of a text are recovered, if each has a number and all numbers are below 2^64. A law: it does nothing.
+/// A reader recovers the lines of numbers of a text. Each line must have a number, and all numbers must be below 2^64.
+/// A law: it does nothing.
 pub fn lines_are_read_back()
     ensures { (lines : List (List ℕ)) → AreLines lines → numbers_in [] 0 (flat_map line_text lines) ≡ lines }
 {}

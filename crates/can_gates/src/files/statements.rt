@@ -120,8 +120,8 @@ fn next_at(registers: &[Register], place: usize) -> Literal
     }
 }
 
-/// The statements of a text are recovered, if no name has a space, a semicolon or a newline, and numbers are below
-/// 2^64. A law: it does nothing.
+/// A reader recovers the statements of a text. No name may have a space, a semicolon or a newline, and numbers must be
+/// below 2^64. A law: it does nothing.
 pub fn statements_are_read_back()
     ensures { (statements : List Statement) → AreProper statements → map statement_in (words_by_line [] [] (flat_map statement_text statements)) ≡ map Some statements }
 {}

@@ -73,7 +73,8 @@ fn push_meaning(text: &mut Text, name: &str, meaning: &str)
     text.push(b"\n");
 }
 
-/// The lines of names are recovered, if no name has a space, a semicolon or a newline. A law: it does nothing.
+/// A reader recovers the lines of names. No name may have a space, a semicolon or a newline, and indices must be below
+/// 2^64. A law: it does nothing.
 pub fn symbols_are_read_back()
     ensures { (s : List Symbol) → AreSymbols s → words_by_line [] [] (flat_map symbol_text s) ≡ map symbol_words s }
 {}

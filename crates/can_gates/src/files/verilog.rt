@@ -143,8 +143,8 @@ fn push_range(text: &mut Text, highest: u32)
     text.push(b":0] ");
 }
 
-/// Each line of a module is recovered, if names and meanings are readable, and the numbers of the circuit below 2^64. A
-/// law: it does nothing.
+/// A reader recovers each line of a module. Names and meanings must be readable, and the numbers of the circuit below
+/// 2^64. A law: it does nothing.
 pub fn modules_are_read_back()
     ensures { (n : AllNames) (c : CircuitParts) (registers : List RegisterParts) (outputs : List Side) → AreReadable n → AreLines (file_lines c registers outputs)
         → read_module (verilog_text n c registers outputs) ≡ module_lines n c registers outputs }
