@@ -1,4 +1,4 @@
--- What a port drives over several bit times. (bindings/README.md, "Link and call")
+-- What a port drives over several bit times. (bindings/README.md, "From C")
 use Rattle.std.specs.Prelude.{List, [], ◌∷◌, Option, Some, None}
 use Rattle.can_frame.specs.declared.level.Level.{Level}
 use Rattle.can_mac.specs.declared.event.Event.{Event}

@@ -1,5 +1,5 @@
--- The status of each call: the first refusal that applies, in the order of the tests below. (bindings/README.md, "What
--- is refused")
+-- The status of each call: the first refusal that applies, in the order of the tests below. (bindings/README.md,
+-- "Errors")
 use Rattle.std.specs.Prelude.{ℕ, ◌==◌, nat_lt, nat_le, if◌then◌else◌, Option, Some, None, unwrap_or, List, length}
 use Rattle.can_wire.specs.Wire.{driven}
 use Rattle.can_node.specs.Ports.{PortState}

@@ -39,8 +39,7 @@ impl Controller {
     }
 
     /// Returns a port that begins with bus integration: it waits for eleven recessive levels in a row before it takes
-    /// part. Its transmit queue has space for `queue` frames, its log for `log` entries. It fails only if an allocation
-    /// fails, and then keeps no memory.
+    /// part. Otherwise it is as that of [`Controller::idle`].
     pub fn joining(alloc: Global, queue: usize, log: usize) -> Result<Controller, AllocError>
         ensures port { IfOk result (λ c. c ≡ fresh_port joining_state queue log) }
         ensures no_rooms { queue ≡ 0 → log ≡ 0 → IsOk result }

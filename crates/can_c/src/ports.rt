@@ -26,8 +26,7 @@ pub extern "C" fn can_c_idle(alloc: Global, handle: &mut Handle, queue: usize, l
 }
 
 /// Makes a port that begins with bus integration: it waits for eleven recessive levels in a row before it takes part.
-/// Its transmit queue has space for `queue` frames, its log for `log` entries. The port that the handle held is freed.
-/// If there is no memory, nothing changes.
+/// Otherwise it is as that of [`can_c_idle`].
 #[unsafe(no_mangle)]
 pub extern "C" fn can_c_joining(alloc: Global, handle: &mut Handle, queue: usize, log: usize) -> u8
     ensures answers { result ≢ done → result ≡ status_code Status.NoMemory }

@@ -53,9 +53,7 @@ pub fn ascii_file(
     Ok(text.finished()?)
 }
 
-/// Returns an AIGER file in the binary format, with the names of a circuit, and their meaning as a comment. The last
-/// inputs of the circuit are the values of these registers, in their order. A circuit that lacks a gate is refused with
-/// its reason; a complete one only if an allocation fails.
+/// Returns an AIGER file in the binary format. It has the same content and refusals as [`ascii_file`].
 pub fn binary_file(
     alloc: Global,
     names: &Names<'_>,
