@@ -1,4 +1,4 @@
--- To believe: the contracts of public calls and laws are stated in these definitions
+-- To believe: the definitions in which public calls and laws state what they promise
 pub mod Circuit
 pub mod Lacking
 pub mod Words

@@ -53,7 +53,7 @@ ascii_text n c registers outputs = aiger_text c registers outputs ++ names_text 
 abbrev pub symbol_words : Symbol → List (List ℕ)
 symbol_words s = (s.kind ++ decimal s.place) ∷ s.name ∷ []
 
--- the letters and names have no newline, space or semicolon
+-- the letters and names have no newline, space or semicolon, and indices are below 2^64
 abbrev pub AreSymbols : List Symbol → Type 0
 AreSymbols [] = Unit {0}
 AreSymbols (s ∷ symbols) = IsName s.kind × (s.place < 2 ^ 64) × IsName s.name × AreSymbols symbols

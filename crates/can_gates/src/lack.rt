@@ -8,7 +8,7 @@ use thiserror::Error;
 /// Why a circuit lacks a gate that a call asked for.
 #[derive(Clone, Copy, Debug, PartialEq, Eq, Error)]
 pub enum Lack {
-    /// It was full: it had as many gates as its capacity.
+    /// It was full: it had no capacity for one more gate.
     #[error("the circuit is full")]
     Room,
     /// One of the gate's sides was of a signal that the circuit does not have.

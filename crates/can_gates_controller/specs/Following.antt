@@ -86,7 +86,7 @@ is_behind_part (AckDelimiter r) = true
 is_behind_part (EndOfFrame r place) = true
 is_behind_part p = false
 
--- the literals are whether this phase belongs to a frame
+-- the literals show in which part of a frame this phase is, if in any
 pub record ShowsWithin (v : ℕ → Bool) (k : Within) (p : MacPhase) : Type 0 where
   pub part : value v k.part ≡ is_part p
   pub end : value v k.end ≡ is_behind_part p

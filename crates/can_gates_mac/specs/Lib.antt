@@ -1,4 +1,4 @@
--- To believe: the contracts of public calls are stated in these definitions
+-- To believe: the definitions in which public calls state what they promise
 pub mod Nibbles
 pub mod Numbers
 pub mod Shown
