@@ -65,7 +65,7 @@ fn next_place(check: &[Literal; 15], place: usize) -> Literal
     check[place + 1]
 }
 
-/// The bit of the generator polynomial, if it is added.
+/// The bit of the generator polynomial with this index if `fed` is true, otherwise dominant.
 fn term_of(fed: Literal, place: usize) -> Literal
     requires { place < 15 }
     ensures { (v : ℕ → Bool) → v 0 ≡ false → value v result ≡ (value v fed && is_recessive (level_at lower_terms place)) }

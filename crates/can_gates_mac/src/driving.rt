@@ -85,14 +85,14 @@ pub fn stuffing(circuit: &mut Circuit, last: Literal, run: Nibble, seen: Literal
     }
 }
 
-/// The first index after the arbitration field of a standard frame.
+/// The first index after the RTR bit of a standard frame.
 const BEHIND_STANDARD: u64 = 13;
 
-/// The first index after the arbitration field of an extended frame.
+/// The first index after the RTR bit of an extended frame.
 const BEHIND_EXTENDED: u64 = 33;
 
-/// Returns whether the unstuffed bit with this index belongs to the arbitration field of a frame of this format. (Bosch
-/// CAN 2.0 part B, section 3.2.1)
+/// Returns whether an unstuffed bit comes no later than the RTR bit of a frame of this format, so that it arbitrates.
+/// `count` is the index of the bit. (Bosch CAN 2.0 part B, section 3.2.1)
 pub fn arbitrates(circuit: &mut Circuit, count: &[Literal], extended: Literal) -> Literal
     ensures { Makes circuit.old circuit.new (λ v. value v result ≡ nat_le (number v count.now) (rtr_place (value v extended))) }
 {

@@ -1,4 +1,4 @@
-//! How that which the moves read is made.
+//! Makes what the moves read.
 ghost use Rattle.std.specs.Prelude.{◌≡◌, ◌≤◌, ℕ, Bool, nat_lt, ◌&&◌, if◌then◌else◌, Option};
 ghost use Rattle.can_frame.specs.declared.level.Level.{Level};
 ghost use Rattle.can_frame.specs.Parts.{Parts};

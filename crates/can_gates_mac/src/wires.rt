@@ -68,7 +68,7 @@ pub struct Part {
     pub due: Literal,
     /// Whether the sampled level repeats the last one.
     pub repeats: Literal,
-    /// Whether the next level belongs to the arbitration field of the transmitter's frame.
+    /// Whether the next level comes no later than the RTR bit of the transmitter's frame.
     pub arbitrates: Literal,
     /// Whether the next level of the transmitter's frame is recessive.
     pub sent: Literal,
