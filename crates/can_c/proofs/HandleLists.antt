@@ -136,7 +136,7 @@ module _ {N : Type 0} (port : N → PortState) where
     tail-nodes : drop (n + 1) nodes ≡ drop (n + 1) others
     tail-nodes = let e : get_or nodes n x ∷ drop (n + 1) nodes ≡ get_or others n x ∷ drop (n + 1) others = next-nodes in (cc)
 
-    -- the next handle holds a port, where all do
+    -- the next handle holds a port, if all do
     pub exchange-held : lacks_port (held_in first) ≡ false → is_some h.held ≡ true
     exchange-held none =
         let size : length (held_in first) ≡ length first = length-map first held_by in

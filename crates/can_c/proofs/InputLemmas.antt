@@ -24,7 +24,7 @@ module _ {A : Type 0} (why : A → Option Status) where
       let parts = both-none (why x) (first_reason why (take n xs)) none in
       ap (λ r. option_or r (first_reason why xs)) parts.0 ∙ at xs n d reason (omega arith) parts.1 here
 
-  -- there is none up to one more
+  -- there is none among one more element
   pub none-more : (xs : List A) (n : ℕ) (d : A) → n < length xs → first_reason why (take n xs) ≡ None → why (get_or xs n d) ≡ None → first_reason why (take (n + 1) xs) ≡ None
   none-more xs n d within none here = rw add-one (more xs n d within none here)
 

@@ -3,7 +3,7 @@ mod PortBox
 mod PortDrop
 mod BoxCalls
 mod HandleValues
--- what calls answer
+-- the status of calls
 mod StatusLemmas
 mod FrameLemmas
 mod DecodeLemmas

@@ -1,4 +1,4 @@
--- No frame has more than 157 levels: what stands behind as many changes neither what is found nor the fault.
+-- No frame has more than 157 levels: later levels change neither the decoded frame nor the fault.
 use Rattle.std.proofs.Common.{◌≡◌, ℕ, zero, suc, ◌+◌, ◌-◌, ◌*◌, ◌≤◌, Bool, true, false, List, [], ◌∷◌, ◌++◌, length, take, drop, refl, sym, ◌∙◌, ap, subst, arith, cond, length-append}
 use Rattle.std.proofs.Math.Seq.{take-append-add}
 use Rattle.std.proofs.lemmas.List.{append-nil, length-drop, length-take-le, take-append-drop, take-append-le, take_all}
@@ -14,7 +14,7 @@ use Rattle.can_wire.proofs.LayoutHead.{length-heard_head-le}
 use Rattle.can_wire.proofs.SpellingLemmas.{Spells-only, length-spelling-le}
 use Rattle.can_wire.proofs.StuffingLemmas.{length-stuffed, stuffed-only}
 
--- a spelling has so many levels at most
+-- a spelling has at most 157 levels
 Spells-length : (h : HeardParts) (w : List Level) → Spells h w → length w ≤ 157
 Spells-length h w spelled = by h.frame.id.extended (length w) (omega (arith, ap length (Spells-only h w spelled), length-spelling-le h spelled.heard))
   where
@@ -22,7 +22,7 @@ Spells-length h w spelled = by h.frame.id.extended (length w) (omega (arith, ap 
     by true n p = p
     by false n p = omega arith
 
--- so has a list of that shape with any check sequence
+-- and so does a list of that shape with any CRC sequence
 IsShape-length : (w : List Level) → IsShape w → length w ≤ 157
 IsShape-length w shape =
     let u = heard_head shape.h ++ shape.check in
@@ -40,7 +40,7 @@ IsShape-length w shape =
 BeginsShape-length : (b : List Level) → BeginsShape b → length b ≤ 157
 BeginsShape-length b begins = omega (arith, length-append b begins.0, IsShape-length (b ++ begins.0) begins.1)
 
--- as many levels of that shape, with their check sequence, are a spelling
+-- 157 levels of that shape, with their CRC sequence, are a spelling
 Spells-full : (b : List Level) → length b ≡ 157 → IsSound b → (h : HeardParts) × Spells h b
 Spells-full b full sound =
     let shape = sound.begins.1 in
@@ -75,7 +75,7 @@ module _ (l front : List Level) (is_front : front ≡ take 157 l) where
   pub take-front : (n : ℕ) → n ≤ length front → take n front ≡ take n l
   take-front n h = sym (take-append-le n front (drop 157 l) h) ∙ ap (take n) whole
 
-  -- a spelling at the front of the levels stands in the front
+  -- a spelling with which the levels begin is in the front
   pub Spells-front : (h : HeardParts) (w rest : List Level) → Spells h w → w ++ rest ≡ l → w ++ take (157 - length w) rest ≡ front
   Spells-front h w rest spelled is_l =
       let room : length w + (157 - length w) ≡ 157 = omega (arith, Spells-length h w spelled) in
@@ -96,7 +96,7 @@ module _ (l front : List Level) (is_front : front ≡ take 157 l) where
       longest = λ n longer within sound. let inside = sound_in n within sound in fault.place.longest n longer inside (subst IsSound (sym (take-front n inside)) sound);
     }
 
-    -- the front ends too early only where the levels do
+    -- the front ends too early only if the levels do
     ends : f.place ≡ length front → f.place ≡ length l
     ends is = by (length (drop 157 l)) refl
       where

@@ -37,7 +37,7 @@ use Rattle.can_c.proofs.HandleLists.{ports-held}
 pub bus-held : (held : List (Option PortState)) (ports : List PortState) → held ≡ map Some ports → new_bus ports ≡ bus_held held
 bus-held held ports is = sym (ap bus_held is ∙ ap new_bus (ports-held ports))
 
--- a call has as many ports behind it
+-- after a call there are as many ports as before
 pub length-call : (offers : List Offer) (hits : List Hit) (n : ℕ) (start : BusState) → length (call_after offers hits n start).bus.ports ≡ length start.ports
 unfolding call_after
 length-call offers hits zero start = refl
@@ -64,7 +64,7 @@ pub both-ways : {T E P : Type 0} (r : Result T E) → OnOk r P → OnErr r P →
 both-ways (Ok x) p q = p
 both-ways (Err e) p q = q
 
--- the numbers of levels that are told one by one
+-- the numbers of levels that are given one by one
 pub codes-of : (line : ℕ → Level) (levels : List Level) (codes : List ℕ) → codes ≡ map level_code levels → ((t : ℕ) → t < length levels → slice_get levels t ≡ Some (line t)) → AreCodesOf line codes
 codes-of line levels codes are told t within =
     let size : length codes ≡ length levels = ap length are ∙ length-map levels level_code in
@@ -102,7 +102,7 @@ fits-parts held fits =
     let few-is : nat_lt 64 (length held) ≡ false = few.0 in
     (grind (arith, nat_tests), grind (arith, nat_tests), each.0)
 
--- the reasons of a call, one behind another
+-- the reasons why a call is refused, one after another
 pub refused-ports : (held : List (Option PortState)) (offers : List PlainOffer) (hits : List PlainHit) (why : Status) → ports_refusal held ≡ Some why → play_refusal held offers hits ≡ Some why
 refused-ports held offers hits why is = ap (λ r. option_or r (option_or (offers_refusal offers) (hits_refusal hits))) is
 
@@ -221,7 +221,7 @@ module _ (first last : List Handle) (before after : List PortState) (lent : held
 
 -- ---- a network
 
--- a run is one on another bus that is the same, brings its ports to the same, and records the same
+-- a run of one bus is a run of an equal bus, with equal ports after it and equal records
 pub network-same : (offers : List Offer) (hits : List Hit) (bus other : BusState) (recorded records : List Level) (after last : List PortState) → bus ≡ other → recorded ≡ records → after ≡ last
     → OnNetworkCall offers hits bus (λ course. IsNetworkRun offers course recorded bus.ports after) → OnNetworkCall offers hits other (λ course. IsNetworkRun offers course records other.ports last)
 network-same offers hits bus other recorded records after last from levels to is =

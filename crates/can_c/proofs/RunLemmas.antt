@@ -7,7 +7,7 @@ use Rattle.can_mac.specs.Codes.{event_code}
 use Rattle.can_node.specs.Ports.{PortState, port_drives, port_event, port_events, port_run, port_step}
 use Rattle.can_c.specs.BitTimes.{drives_over}
 
--- the numbers of what a port drives, and of what it tells
+-- the numbers of the levels that a port drives, and of its events
 abbrev pub drives_codes : PortState → List ℕ → List ℕ
 drives_codes p codes = map level_code (drives_over p (levels_of_codes codes))
 
@@ -35,7 +35,7 @@ events_first : (q : PortState) (c : ℕ) (rest : List ℕ) → event_codes q (c 
 unfolding port_events
 events_first q c rest = refl
 
--- what was written, with one more behind it, is a longer front of the whole
+-- what was written, and one more element, is a longer front of the whole
 one_more : (written : List ℕ) (n x : ℕ) (left whole rest : List ℕ) → n < length written → take n written ++ left ≡ whole → left ≡ x ∷ rest → take (n + 1) (set written n x) ++ rest ≡ whole
 one_more written n x left whole rest within so first =
     ap (λ t. t ++ rest) (take_more_set written n x within) ∙ append_assoc (take n written) (x ∷ []) rest ∙ sym (ap (λ t. take n written ++ t) first) ∙ so
@@ -56,7 +56,7 @@ one_more_passed p q codes drives events n h within =
       long_events = length-set events n _ ∙ h.long_events;
     }
 
--- the same, of values that are told by equations
+-- the step of values that are given by equations
 pub next_passed : (p q next : PortState) (codes drives events : List ℕ) (n drive event code : ℕ) (seen : Level) → IsPassed p q codes drives events n → n < length codes →
     code ≡ get_or codes n 0 → seen ≡ level_of code → drive ≡ level_code (port_drives q) → next ≡ port_step q seen → event ≡ event_code (port_event q seen) →
     IsPassed p next codes (set drives n drive) (set events n event) (n + 1)

@@ -47,7 +47,7 @@ pub recessive-here : (codes : List ℕ) (n d : ℕ) → n < length codes → wir
 recessive-here codes n d within same high =
     passes (level_of (get_or codes n d)) (wired (levels_of_codes (drop (n + 1) codes))) (wired (levels_of_codes codes)) (sym (at codes n d within) ∙ same) high
 
--- behind the last one all were
+-- after the last one, all were recessive
 pub all-recessive : (codes : List ℕ) (n : ℕ) → length codes ≤ n → wired (levels_of_codes (drop n codes)) ≡ wired (levels_of_codes codes) →
     Recessive ≡ wired (levels_of_codes codes)
 unfolding wired

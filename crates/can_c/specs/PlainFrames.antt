@@ -1,5 +1,5 @@
--- Frames and what is heard of them as plain fields, as they cross to C: eight data bytes always, of which a
--- frame has the first ones; flags and levels as 0 and 1. (Bosch CAN 2.0 part B, section 3.2.1)
+-- Frames, and frames as received, as plain fields for C: always eight data bytes, of which a frame has the first ones;
+-- flags and levels as 0 and 1. (Bosch CAN 2.0 part B, section 3.2.1)
 use Rattle.std.specs.Prelude.{◌-◌, ◌==◌, nat_lt, if◌then◌else◌, Option, Some, None, ◌++◌, length, take, replicate}
 use Rattle.can_frame.specs.Ident.{Ident, ident_count}
 use Rattle.can_frame.specs.Parts.{Parts, byte_count}
@@ -11,8 +11,8 @@ use Rattle.can_c.specs.declared.status.Status.TheVariants.{BadFlag, BadIdentifie
 use Rattle.std.specs.Int.{from_bool}
 use Rattle.can_frame.specs.Levels.{level_code}
 
--- why plain fields are no frame, the first reason that fits: a flag that is neither 0 nor 1, an identifier that
--- its kind has not, a data length code above 15
+-- why plain fields are no frame, the first reason that applies: a flag is neither 0 nor 1; the identifier is out of the
+-- range of its kind; the data length code is above 15
 abbrev pub refusal : PlainFrame → Option Status
 refusal f =
     if nat_lt 1 f.extended then Some BadFlag
@@ -20,6 +20,7 @@ refusal f =
     else if nat_lt f.identifier (ident_count (f.extended == 1)) then (if nat_lt 15 f.dlc then Some BadDlc else None)
     else Some BadIdentifier
 
+-- the identifier of plain fields
 abbrev pub ident_of_plain : PlainFrame → Ident
 ident_of_plain f = record { raw = f.identifier; extended = f.extended == 1 }
 
@@ -27,7 +28,7 @@ ident_of_plain f = record { raw = f.identifier; extended = f.extended == 1 }
 abbrev pub frame_of_plain : PlainFrame → Parts
 frame_of_plain f = record { id = ident_of_plain f; remote = f.remote == 1; dlc = f.dlc; bytes = take (byte_count (f.remote == 1) f.dlc) f.bytes }
 
--- the plain fields of a frame: the data bytes that it has not are 0
+-- the plain fields of a frame: data bytes that it does not have are 0
 abbrev pub plain_frame : Parts → PlainFrame
 plain_frame f = record {
   identifier = f.id.raw;
@@ -37,7 +38,7 @@ plain_frame f = record {
   bytes = f.bytes ++ replicate (8 - length f.bytes) 0;
 }
 
--- the plain fields of what is heard
+-- the plain fields of a frame as received
 abbrev pub plain_heard : HeardParts → PlainHeard
 plain_heard h = record {
   frame = plain_frame h.frame;

@@ -1,5 +1,4 @@
--- Offers and disturbances as plain fields, as they cross to C.
--- (docs/BUS.md, "Disturbances" and "Frames offered while the bus runs")
+-- Offers and hits as plain fields for C. (docs/BUS.md, "Disturbances" and "Frames offered while the bus runs")
 use Rattle.std.specs.Prelude.{◌==◌, nat_lt, if◌then◌else◌, List, [], ◌∷◌, map, Option, Some, None}
 use Rattle.std.specs.Option.{option_or}
 use Rattle.can_hit.specs.declared.hit.Hit.{Hit}
@@ -15,17 +14,19 @@ use Rattle.can_c.specs.PlainFrames.{frame_of_plain, refusal}
 abbrev pub offer_of_plain : PlainOffer → Offer
 offer_of_plain o = record { time = o.time; node = o.port; frame = frame_of_plain o.frame }
 
+-- the offers of several
 abbrev pub offers_of_plain : List PlainOffer → List Offer
 offers_of_plain offers = map offer_of_plain offers
 
--- the disturbance of plain fields: its kind says what it is, and which of them are read
+-- the hit of plain fields: its kind decides which fields are read
 abbrev pub hit_of_plain : PlainHit → Hit
 hit_of_plain h = if h.kind == 0 then At h.time else if h.kind == 1 then In h.attempt h.offset else View h.time h.port
 
+-- the hits of several
 abbrev pub hits_of_plain : List PlainHit → List Hit
 hits_of_plain hits = map hit_of_plain hits
 
--- why plain fields are no disturbance: there are three kinds
+-- why plain fields are no hit: there are three kinds
 abbrev pub kind_refusal : PlainHit → Option Status
 kind_refusal h = if nat_lt 2 h.kind then Some BadKind else None
 
@@ -34,8 +35,10 @@ abbrev pub first_reason : {A : Type 0} → (A → Option Status) → List A → 
 first_reason why [] = None
 first_reason why (x ∷ xs) = option_or (why x) (first_reason why xs)
 
+-- why one of these frames is no frame, the first reason
 abbrev pub offers_refusal : List PlainOffer → Option Status
 offers_refusal offers = first_reason (λ (o : PlainOffer). refusal o.frame) offers
 
+-- why one of these is no hit, the first reason
 abbrev pub hits_refusal : List PlainHit → Option Status
 hits_refusal hits = first_reason kind_refusal hits

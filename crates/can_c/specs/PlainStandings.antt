@@ -1,5 +1,5 @@
--- Where a port stands, as it crosses to C: its phase, its part in the frame, and the rule of docs/ACCESS.md that
--- decides there, by the numbers of bindings/riddlesage.h. (Bosch CAN 2.0 part B, sections 3.2 and 7)
+-- The protocol state of a port for C: its phase, its role, and the rule of docs/ACCESS.md that decides in the phase, by
+-- the numbers of bindings/riddlesage.h. (Bosch CAN 2.0 part B, sections 3.2 and 7)
 use Rattle.std.specs.Prelude.{ℕ}
 use Rattle.can_mac.specs.State.{MacState}
 use Rattle.can_conform.specs.declared.standing.PhaseName.{PhaseName}
@@ -11,6 +11,7 @@ use Rattle.can_conform.specs.declared.standing.Rule.TheVariants as rule
 use Rattle.can_conform.specs.Standings.{part_of, phase_name, phase_rule}
 use Rattle.can_c.specs.declared.standing.PlainStanding.{PlainStanding}
 
+-- the number of a phase
 abbrev pub phase_code : PhaseName → ℕ
 phase_code (name.Joining row) = 0
 phase_code name.Idle = 1
@@ -28,7 +29,7 @@ phase_code (name.Intermission place) = 12
 phase_code (name.Suspend place) = 13
 phase_code (name.BusOff rows) = 14
 
--- how much of the phase has come: 0 where it has one level alone, or none
+-- the progress within a phase: 0 in a phase of one bit, and when idle
 abbrev pub phase_place : PhaseName → ℕ
 phase_place (name.Joining row) = row
 phase_place name.Idle = 0
@@ -46,10 +47,12 @@ phase_place (name.Intermission place) = place
 phase_place (name.Suspend place) = place
 phase_place (name.BusOff rows) = rows
 
+-- the number of a role: receiver or transmitter
 abbrev pub part_code : Part → ℕ
 part_code part.Receiver = 0
 part_code part.Sender = 1
 
+-- the number of a rule
 abbrev pub rule_code : Rule → ℕ
 rule_code rule.Joining = 0
 rule_code rule.StartOfFrame = 1
@@ -70,7 +73,7 @@ rule_code rule.Delimiter = 15
 rule_code rule.OverloadFlags = 16
 rule_code rule.OwnOverloadFrames = 17
 
--- where a controller stands
+-- the plain fields of a controller's protocol state
 abbrev pub plain_standing : MacState → PlainStanding
 plain_standing m = record {
   phase = phase_code (phase_name m);

@@ -1,4 +1,4 @@
--- A bus of ports that a caller has, with frames that are offered to them and disturbances. (docs/BUS.md, "Runs" and "Refusals")
+-- A bus of ports that the caller keeps, with offers and hits. (docs/BUS.md, "Runs" and "Refusals")
 use Rattle.std.specs.Prelude.{ℕ, ◌≡◌, ◌+◌, ◌<◌, ◌⊎◌, ◌==◌, nat_lt, Bool, true, false, if◌then◌else◌, List, [], ◌∷◌, length, map, Option, Some, None, slice_get}
 use Rattle.std.specs.Option.{option_or}
 use Rattle.can_frame.specs.declared.level.Level.{Level}
@@ -22,20 +22,20 @@ use Rattle.can_c.specs.declared.status.Status.TheVariants.{BadBus, NoMemory, NoP
 use Rattle.can_c.specs.PlainInputs.{hits_of_plain, hits_refusal, offers_of_plain, offers_refusal}
 use Rattle.can_c.specs.Statuses.{bus_status}
 
--- what a handle holds, and what each of several
+-- the port that a handle holds, if any; and those of several handles
 abbrev pub held_by : Handle → Option PortState
 held_by handle = handle.held
 
 abbrev pub held_in : List Handle → List (Option PortState)
 held_in handles = map held_by handles
 
--- a handle holds no port
+-- one of the handles holds no port
 abbrev pub lacks_port : List (Option PortState) → Bool
 lacks_port [] = false
 lacks_port (None ∷ held) = true
 lacks_port (Some p ∷ held) = lacks_port held
 
--- the ports of the others, in their order
+-- the ports that the handles hold, in their order
 abbrev pub ports_held : List (Option PortState) → List PortState
 ports_held [] = []
 ports_held (None ∷ held) = ports_held held
@@ -45,34 +45,34 @@ ports_held (Some p ∷ held) = p ∷ ports_held held
 abbrev pub bus_held : List (Option PortState) → BusState
 bus_held held = new_bus (ports_held held)
 
--- the numbers of levels are those of this line
+-- these numbers are those of the levels of this line
 abbrev pub AreCodesOf : (ℕ → Level) → List ℕ → Type 0
 AreCodesOf line codes = (t : ℕ) → t < length codes → slice_get codes t ≡ Some (level_code (line t))
 
 -- ---- refusals
 
--- there are 1 to 64 handles, each with a port
+-- why handles are no bus: there are 1 to 64 of them, each with a port
 abbrev pub ports_refusal : List (Option PortState) → Option Status
 ports_refusal held =
     if length held == 0 then Some BadBus
     else if nat_lt 64 (length held) then Some BadBus
     else if lacks_port held then Some NoPort else None
 
--- the first reason why there is no such call: of the handles, then of the frames that are offered, then of the kinds of disturbances
+-- why there is no such call, the first reason: of the handles, then of the frames offered, then of the kinds of hits
 abbrev pub play_refusal : List (Option PortState) → List PlainOffer → List PlainHit → Option Status
 play_refusal held offers hits = option_or (ports_refusal held) (option_or (offers_refusal offers) (hits_refusal hits))
 
--- a bus of so many ports tells this fault: of the first offer that it refuses, or else of the first disturbance
+-- the fault that a bus of `ports` ports reports: that of the first offer that is wrong; otherwise that of the first hit
 abbrev pub IsPlayFault : ℕ → List Offer → List Hit → BusFault → Type 0
 IsPlayFault ports offers hits fault = IsFirstOfferFault ports offers fault ⊎ (AreOffered ports offers × IsFirstHitFault ports hits fault)
 
--- why a call is refused: there is none, or the bus tells a fault; or else memory ran out
+-- why a call is refused: by its arguments; by the fault that the bus reports; or because there is no memory
 abbrev pub IsPlayRefusal : List (Option PortState) → List PlainOffer → List PlainHit → Status → Type 0
 IsPlayRefusal held offers hits why = (why ≡ NoMemory) ⊎ ((play_refusal held offers hits ≡ Some why)
     ⊎ ((play_refusal held offers hits ≡ None) × ((fault : BusFault)
     × (IsPlayFault (length held) (offers_of_plain offers) (hits_of_plain hits) fault × (why ≡ bus_status fault)))))
 
--- a call that isn't refused
+-- a call that is not refused
 pub record IsPlayCall (held : List (Option PortState)) (offers : List PlainOffer) (hits : List PlainHit) : Type 0 where
   pub fits : play_refusal held offers hits ≡ None
   pub offered : AreOffered (length held) (offers_of_plain offers)
@@ -80,7 +80,7 @@ pub record IsPlayCall (held : List (Option PortState)) (offers : List PlainOffer
 
 -- ---- a network
 
--- what such a call records on a network whose attempts are this course, and brings its ports to
+-- what such a call records on a network whose attempts are this course, and the states in which it leaves the ports
 pub record IsNetworkRun (offers : List Offer) (course : List Transmission) (recorded : List Level) (before after : List PortState) : Type 0 where
   pub levels : AreLevelsOf (course_at course) recorded
   pub logs : AtEachNode (NetworkLogBegins offers course) before after

@@ -1,5 +1,5 @@
--- The numbers by which C knows what a call answers. They are those of bindings/riddlesage.h, where 1 and 2 are
--- what it answers of pointers itself, and 19 and 20 what calls of can_page answer of texts.
+-- The number of each status in C. They are those of bindings/riddlesage.h, which itself returns 1 and 2 for pointers;
+-- 19 and 20 are of the calls of can_page for texts.
 use Rattle.std.specs.Prelude.{ℕ}
 use Rattle.can_bus.specs.declared.fault.BusFault.{BusFault}
 use Rattle.can_bus.specs.declared.fault.BusFault.TheVariants as bus
@@ -8,6 +8,7 @@ use Rattle.can_code.specs.declared.fault.CodeFaultKind.TheVariants.{Short, NoSta
 use Rattle.can_c.specs.declared.status.Status.{Status}
 use Rattle.can_c.specs.declared.status.Status.TheVariants.{Done, NoPort, NoMemory, QueueFull, NoEntry, BadFlag, BadIdentifier, BadDlc, BadLevel, BadCount, NoLevels, NoRoom, ShortFrame, NoStart, StuffFault, CrcFault, FormFault, BadBus, NoSuchPort, BadOrder, BadKind, BadWire}
 
+-- the number of a status
 abbrev pub status_code : Status → ℕ
 status_code Done = 0
 status_code NoPort = 3
@@ -32,11 +33,11 @@ status_code BadOrder = 23
 status_code BadKind = 24
 status_code BadWire = 25
 
--- the call has done what it says
+-- the call has done what it promises
 abbrev pub done : ℕ
 done = status_code Done
 
--- the status of a fault of levels
+-- the status of a decoding fault
 abbrev pub levels_status : CodeFaultKind → Status
 levels_status Short = ShortFrame
 levels_status NoStartOfFrame = NoStart
@@ -44,7 +45,7 @@ levels_status Stuff = StuffFault
 levels_status Crc = CrcFault
 levels_status Form = FormFault
 
--- the status of a fault that a bus tells
+-- the status of a fault that a bus reports
 abbrev pub bus_status : BusFault → Status
 bus_status bus.NoPort = BadBus
 bus_status bus.TooManyPorts = BadBus

@@ -15,7 +15,7 @@ use can_frame::Level;
 use can_mac::Event;
 use std::alloc::Global;
 
-/// Writes the level that the port drives in this bit time. It changes nothing at the port.
+/// Writes the level that the port drives in this bit time. The port does not change.
 #[unsafe(no_mangle)]
 pub extern "C" fn can_c_drive(alloc: Global, handle: &mut Handle, level: &mut u8) -> u8
     ensures status { result ≡ status_code (port_status handle.old.held) }
@@ -29,8 +29,8 @@ pub extern "C" fn can_c_drive(alloc: Global, handle: &mut Handle, level: &mut u8
     })
 }
 
-/// Has the port sample the level that the bus has in this bit time, and writes the number of what it brought, and
-/// the frame where one was sent or received.
+/// Passes one bit time: the port samples the level of the bus. The call writes the number of the event, and the frame
+/// if one was transmitted or received. If the call is refused, the port does not change.
 #[tactic(auto, using(crate::proofs::StatusLemmas::done_only, crate::proofs::StatusLemmas::not_done))]
 #[unsafe(no_mangle)]
 pub extern "C" fn can_c_sample(
@@ -52,7 +52,7 @@ pub extern "C" fn can_c_sample(
     })
 }
 
-/// Has a port sample a level, and writes what this brought.
+/// Has a port sample a level, and writes the event and its frame.
 fn sample_code(port: &mut Controller, level: u8, event: &mut u8, frame: &mut PlainFrame) -> Status
     ensures status { result ≡ sample_status (Some port.old) level }
     ensures step { result ≡ Status.Done → port.new ≡ port_step port.old (level_of level) }
@@ -70,7 +70,7 @@ fn sample_code(port: &mut Controller, level: u8, event: &mut u8, frame: &mut Pla
     Status::Done
 }
 
-/// Writes the frame that was sent or received, if one was.
+/// Writes the frame that was transmitted or received, if any.
 fn tell(event: &Option<Event>, frame: &mut PlainFrame)
     ensures { frame.new ≡ told_frame event.now frame.old }
 {
@@ -82,9 +82,9 @@ fn tell(event: &Option<Event>, frame: &mut PlainFrame)
     }
 }
 
-/// Has the port sample these levels, one a bit time, and writes for each bit time the level that it drove, and the
-/// number of what it brought. All three are of one length. A level that is none is refused before the first one is
-/// sampled.
+/// Passes one bit time for each of these levels: the port samples them, whatever it drives. The call writes the level
+/// that the port drove in each bit time, and the number of each event. All three slices must have the same length. A
+/// level that is neither 0 nor 1 is refused before the first one is sampled.
 #[tactic(auto, using(crate::proofs::StatusLemmas::done_only, crate::proofs::StatusLemmas::not_done))]
 #[unsafe(no_mangle)]
 pub extern "C" fn can_c_run(
@@ -106,7 +106,7 @@ pub extern "C" fn can_c_run(
     })
 }
 
-/// Has a port sample levels, and writes what it drove and told.
+/// Has a port sample levels, and writes what it drove and the numbers of the events.
 fn run_codes(port: &mut Controller, levels: &[u8], drives: &mut [u8], events: &mut [u8]) -> Status
     ensures status { result ≡ run_status (Some port.old) levels.now drives.old events.old }
     ensures run { result ≡ Status.Done → port.new ≡ port_run port.old (levels_of_codes levels.now) }
@@ -128,7 +128,7 @@ fn run_codes(port: &mut Controller, levels: &[u8], drives: &mut [u8], events: &m
     Status::Done
 }
 
-/// Takes a port through as many bit times as there are levels.
+/// Passes one bit time of a port for each level.
 fn run_each(port: &mut Controller, levels: &[u8], drives: &mut [u8], events: &mut [u8])
     requires drives { length drives.old ≡ length levels.now }
     requires events { length events.old ≡ length levels.now }

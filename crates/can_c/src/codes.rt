@@ -1,4 +1,4 @@
-//! The numbers by which C knows events and states.
+//! The numbers of events and states in C.
 ghost use Rattle.std.specs.Prelude.{◌≡◌};
 ghost use Rattle.can_mac.specs.Codes.{event_code as event_code_of};
 ghost use Rattle.can_c.specs.Codes.{state_code as state_code_of};
@@ -6,7 +6,7 @@ ghost use Rattle.can_c.specs.Codes.{state_code as state_code_of};
 use can_fault::State;
 use can_mac::Event;
 
-/// The number of what a bit time brought, 0 where it brought nothing.
+/// Returns the number of the event of a bit time; 0 if there is none.
 pub fn event_code(event: &Option<Event>) -> u8
     ensures { result ≡ event_code_of event.now }
 {
@@ -22,7 +22,7 @@ pub fn event_code(event: &Option<Event>) -> u8
     }
 }
 
-/// The number of a state of fault confinement.
+/// Returns the number of a state of fault confinement.
 pub fn state_code(state: State) -> u8
     ensures { result ≡ state_code_of state }
 {

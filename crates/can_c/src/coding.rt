@@ -14,8 +14,9 @@ use crate::status::Status;
 use can_code::{decode, encode};
 use can_wire::{front_of_codes, write_codes};
 
-/// Writes the levels of the frame as its sender drives them, one for each bit time, from the start of frame to the
-/// end of frame, and how many there are. What stands behind them stays.
+/// Writes the levels that the transmitter of a frame drives, and their number. There is one level for each bit time,
+/// from the start of frame to the end of frame. Later elements of `levels` stay as they are. If the call is refused,
+/// nothing is written.
 #[tactic(auto, using(crate::proofs::StatusLemmas::done_only, crate::proofs::StatusLemmas::not_done))]
 #[unsafe(no_mangle)]
 pub extern "C" fn can_c_encode(frame: &PlainFrame, levels: &mut [u8], count: &mut usize) -> u8
@@ -39,10 +40,10 @@ pub extern "C" fn can_c_encode(frame: &PlainFrame, levels: &mut [u8], count: &mu
     }
 }
 
-/// Finds the frame at the front of the levels, and writes what is heard of it and how many levels it has; or else
-/// where the fault is that the status tells. It reads the first 157 levels alone: no frame has more, and what
-/// stands behind them changes neither the frame nor the fault. A number among these that is no level's is refused,
-/// and then nothing is written.
+/// Decodes the frame with which the levels begin: writes the frame as received, and how many levels it has. If the
+/// levels begin with no frame, the status is the first fault, and `place` is how many levels come before the first
+/// wrong one. The call reads only the first 157 levels: no frame has more, and later ones change neither the frame nor
+/// the fault. If one of these is neither 0 nor 1, the call is refused, and nothing is written.
 #[tactic(auto, using(crate::proofs::StatusLemmas::fault_not_done))]
 #[unsafe(no_mangle)]
 pub extern "C" fn can_c_decode(levels: &[u8], heard: &mut PlainHeard, place: &mut usize) -> u8

@@ -11,8 +11,8 @@ use std::alloc::{AllocError, Global};
 use std::marker::Model;
 use std::mem;
 
-/// A port that holds the unstuffed levels of a frame in a register, as one value: contracts see it as a
-/// `PortState`. Its calls are those of [`Port`], and promise the same.
+/// A port that keeps the unstuffed bits of a frame in a register, as one value: contracts see it as a `PortState`. Its
+/// calls are those of [`Port`], with the same contracts.
 #[derive(Drop)]
 pub struct Controller {
     node: PackedNode,
@@ -27,8 +27,8 @@ impl Model for Controller {
 }
 
 impl Controller {
-    /// A port that is on the bus and idle, with room for so many frames that wait and so many entries of
-    /// the log. It fails only where an allocation does, and then keeps nothing.
+    /// Returns a port that is on the bus and idle. Its transmit queue has space for `queue` frames, its log for `log`
+    /// entries. It fails only if an allocation fails, and then keeps no memory.
     pub fn idle(alloc: Global, queue: usize, log: usize) -> Result<Controller, AllocError>
         ensures port { IfOk result (λ c. c ≡ fresh_port idle_state queue log) }
         ensures no_rooms { queue ≡ 0 → log ≡ 0 → IsOk result }
@@ -38,7 +38,8 @@ impl Controller {
         })
     }
 
-    /// The same, of a port that waits for eleven recessive levels in a row before it is on the bus.
+    /// Returns a port that begins with bus integration: it waits for eleven recessive levels in a row before it takes
+    /// part. Otherwise it is as that of [`Controller::idle`].
     pub fn joining(alloc: Global, queue: usize, log: usize) -> Result<Controller, AllocError>
         ensures port { IfOk result (λ c. c ≡ fresh_port joining_state queue log) }
         ensures no_rooms { queue ≡ 0 → log ≡ 0 → IsOk result }
@@ -48,8 +49,8 @@ impl Controller {
         })
     }
 
-    /// The same port once more, with memory of its own. It fails only where an allocation does, and then keeps
-    /// nothing.
+    /// Returns a copy of the port, with memory of its own. It fails only if an allocation fails, and then keeps no
+    /// memory.
     pub fn copied(&self, alloc: Global) -> Result<Controller, AllocError>
         ensures { IfOk result (λ c. c ≡ self.now) }
     {
@@ -58,7 +59,7 @@ impl Controller {
         })
     }
 
-    /// Changes places with a port of a bus: each is then what the other was.
+    /// Exchanges the states of this port and a port of a bus.
     pub fn swap(&mut self, node: &mut PackedNode)
         ensures own { self.new ≡ ⟦<PackedNode as Port>⟧.port node.old }
         ensures other { ⟦<PackedNode as Port>⟧.port node.new ≡ self.old }
@@ -66,21 +67,21 @@ impl Controller {
         mem::swap(&mut self.node, node);
     }
 
-    /// The medium access of its controller.
+    /// Returns the medium access control of its controller.
     pub fn access(&self) -> &PackedMac
         ensures { result.now ≡ self.now.mac }
     {
         self.node.access()
     }
 
-    /// What it drives in this bit time.
+    /// Returns the level that it drives in this bit time.
     pub fn drive(&self) -> Level
         ensures { result ≡ port_drives self.now }
     {
         self.node.drive()
     }
 
-    /// Samples a level, and answers what the bit time brought.
+    /// Samples a level, and returns the event of the bit time.
     pub fn sample(&mut self, seen: Level) -> Option<Event>
         ensures port { self.new ≡ port_step self.old seen }
         ensures event { result ≡ port_event self.old seen }
@@ -88,7 +89,7 @@ impl Controller {
         self.node.sample(seen)
     }
 
-    /// Queues a frame behind those that wait. A full queue gives it back, and nothing changes.
+    /// Queues a frame at the end of the transmit queue. A full queue returns it, and nothing changes.
     pub fn offer(&mut self, frame: Frame) -> Result<(), Frame>
         ensures fits { IsOk result ↔ (length self.old.queue < self.old.queue_room) }
         ensures taken { OnOk result (self.new ≡ port_offered frame self.old) }
@@ -98,8 +99,8 @@ impl Controller {
         self.node.offer(frame)
     }
 
-    /// Asks for so many overload frames of its own, 0 to 2, in place of an earlier wish. Above 2 the
-    /// answer is false, and nothing changes.
+    /// Requests overload frames, 0 to 2, in place of an earlier request. With a count above 2 it returns false, and
+    /// nothing changes.
     pub fn hold(&mut self, count: u8) -> bool
         ensures answer { IsTrue result ↔ (count ≤ 2) }
         ensures held { IsTrue result → self.new ≡ port_holding count self.old }
@@ -108,21 +109,21 @@ impl Controller {
         self.node.hold(count)
     }
 
-    /// The frames that were sent and taken, the oldest first.
+    /// Returns the frames that were transmitted and received, the oldest first.
     pub fn log(&self) -> &[Entry]
         ensures { result.now ≡ self.now.log }
     {
         self.node.log()
     }
 
-    /// How many entries the log had no room for.
+    /// Returns the number of entries for which the log had no capacity.
     pub fn missed(&self) -> u32
         ensures { result ≡ self.now.missed }
     {
         self.node.missed()
     }
 
-    /// The transmit and the receive error counter.
+    /// Returns the transmit and the receive error counter.
     pub fn counters(&self) -> (u16, u16)
         ensures transmit { result.0 ≡ self.now.mac.counters.tec }
         ensures receive { result.1 ≡ self.now.mac.counters.rec }
@@ -130,7 +131,7 @@ impl Controller {
         self.node.counters()
     }
 
-    /// The state of fault confinement.
+    /// Returns the state of fault confinement.
     pub fn state(&self) -> State
         ensures { result ≡ state_of self.now.mac.counters }
     {

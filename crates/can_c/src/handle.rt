@@ -8,9 +8,9 @@ use std::marker::Model;
 use std::mem;
 use std::ptr::null_mut;
 
-/// Does this with the port of a handle, puts it back, and gives the number of the status that this comes to; without a
-/// port that of [`Status::NoPort`]. It's no function of a closure, as that could not promise that nothing is written
-/// where the closure isn't called.
+/// Takes the port out of a handle, runs this code with it, puts it back, and returns the number of the resulting
+/// status; that of [`Status::NoPort`] if there is no port. It is not a function that takes a closure: that could not
+/// promise that nothing is written if the closure isn't called.
 macro_rules! with_port {
     ($alloc:expr, $handle:expr, |$port:ident| $work:expr) => {
         match $handle.take($alloc) {
@@ -26,13 +26,13 @@ macro_rules! with_port {
 
 pub(crate) use with_port;
 
-/// A controller on the heap, or none, as code that is not Rattle keeps it. All bytes 0 is a handle of none.
-/// It is linear: what it holds can't be let go by chance.
+/// A controller on the heap, or none, as code that is not Rattle keeps it. All bytes 0 is a handle without a
+/// controller. It is linear: the controller cannot be dropped unintentionally.
 #[repr(C)]
 pub struct Handle {
     at: *mut u8,
     live: bool,
-    /// The controller, if there is one.
+    /// The state of the controller, if there is one.
     pub ghost held: { Option PortState } by { port_coded },
 }
 
@@ -41,7 +41,7 @@ impl Model for Handle {
 }
 
 impl Handle {
-    /// A handle of none.
+    /// Returns a handle without a controller.
     pub fn empty() -> Handle
         ensures { result.held ≡ None }
     {
@@ -51,7 +51,7 @@ impl Handle {
         }
     }
 
-    /// A handle of this controller.
+    /// Returns a handle that holds this controller.
     pub fn of(controller: Box<Controller>) -> Handle
         ensures { result.held ≡ Some controller.value }
     {
@@ -59,7 +59,7 @@ impl Handle {
         Handle { at, live: true }
     }
 
-    /// Its controller, if it has one.
+    /// Returns the controller that it holds, if there is one.
     pub fn into_box(self, alloc: Global) -> Option<Box<Controller>>
         ensures { MatchOption result (self.held ≡ None) (λ b. self.held ≡ Some b.value) }
     {
@@ -71,7 +71,7 @@ impl Handle {
         }
     }
 
-    /// Whether it has one.
+    /// Returns whether it holds a controller.
     pub fn holds(&mut self, alloc: Global) -> bool
         ensures answer { result ≡ is_some self.old.held }
         ensures unchanged { self.new.held ≡ self.old.held }
@@ -85,7 +85,7 @@ impl Handle {
         }
     }
 
-    /// Takes its controller out, if it has one, and leaves none.
+    /// Takes the controller out, if there is one; afterwards the handle is empty.
     pub fn take(&mut self, alloc: Global) -> Option<Box<Controller>>
         ensures left { self.new.held ≡ None }
         ensures taken { MatchOption result (self.old.held ≡ None) (λ b. self.old.held ≡ Some b.value) }
@@ -93,7 +93,7 @@ impl Handle {
         mem::replace(self, Handle::empty()).into_box(alloc)
     }
 
-    /// Puts a controller in, and frees the one that it has, if any.
+    /// Puts a controller in, and frees the one that it held, if any.
     pub fn put(&mut self, alloc: Global, controller: Box<Controller>)
         ensures { self.new.held ≡ Some controller.value }
     {

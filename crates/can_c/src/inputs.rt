@@ -1,4 +1,4 @@
-//! Offers and disturbances of a bus, as they cross to C.
+//! Offers and hits of a bus, as plain fields for C.
 ghost use Rattle.std.specs.Prelude.{◌≡◌, ◌≢◌, ◌⊎◌, None, Some, IfErr, IfOk, OnOk};
 ghost use Rattle.can_c.specs.PlainFrames.{refusal};
 ghost use Rattle.can_c.specs.PlainInputs.{hit_of_plain, hits_of_plain, hits_refusal, kind_refusal, offer_of_plain, offers_of_plain, offers_refusal};
@@ -9,38 +9,39 @@ use crate::status::Status;
 use can_bus::{Hit, Offer};
 use std::alloc::Global;
 
-/// A frame that is offered to a port of a bus that runs, as plain fields. Each content is allowed; what is none is
-/// refused where it is handed in.
+/// A frame that is queued at a port while a bus runs, as plain fields. Any content is allowed; a call refuses what is
+/// no offer.
 #[repr(C)]
 #[derive(Clone, Copy, Debug)]
 pub struct PlainOffer {
-    /// The bit time before which it is offered, counted from the first of the call.
+    /// The bit time before which it is queued; the first of the call is 0.
     pub time: u64,
-    /// The number of the port, counted from 0.
+    /// The index of the port; the first is 0.
     pub port: usize,
     /// The frame.
     pub frame: PlainFrame,
 }
 
-/// A disturbance of one bit time, as plain fields. Those that its kind doesn't name are not read.
+/// An injected bit error in one bit time, as plain fields. Fields that its kind does not name are not read.
 #[repr(C)]
 #[derive(Clone, Copy, Debug)]
 pub struct PlainHit {
-    /// The bit time, counted from the first of the call, of kinds 0 and 2.
+    /// Kinds 0 and 2: the bit time; the first of the call is 0.
     pub time: u64,
-    /// The attempt, counted from the first of the call, of kind 1.
+    /// Kind 1: the transmission attempt; the first of the call is 0.
     pub attempt: u64,
-    /// How many bit times behind the start of the attempt, of kind 1.
+    /// Kind 1: how many bit times after the start of the attempt.
     pub offset: u64,
-    /// The number of the port, of kind 2.
+    /// Kind 2: the index of the port; the first is 0.
     pub port: usize,
-    /// 0 where the level of the wire is inverted at a time, 1 where it is in an attempt, 2 where one port alone sees
-    /// its inverse.
+    /// 0: for all nodes, the level of the bus is inverted in bit time `time`. 1: for all nodes, it is inverted `offset`
+    /// bit times after the start of transmission attempt `attempt`, unless a later attempt has begun by then. 2: port
+    /// `port` alone samples the inverse of the bus level, in bit time `time`.
     pub kind: u8,
 }
 
 impl PlainOffer {
-    /// The offer, or the first reason why its frame is none.
+    /// The offer, or the first reason why its frame is invalid.
     fn offer(&self) -> Result<Offer, Status>
         ensures refused { IfErr result (λ why. refusal self.now.frame ≡ Some why) }
         ensures none { OnOk result (refusal self.now.frame ≡ None) }
@@ -58,7 +59,7 @@ impl PlainOffer {
 }
 
 impl PlainHit {
-    /// The disturbance, or why it is none.
+    /// The hit, or why it is none.
     fn hit(&self) -> Result<Hit, Status>
         ensures refused { IfErr result (λ why. kind_refusal self.now ≡ Some why) }
         ensures none { OnOk result (kind_refusal self.now ≡ None) }
@@ -70,7 +71,7 @@ impl PlainHit {
         }
     }
 
-    /// The disturbance, where a kind that is none is taken for the last.
+    /// The hit; a kind above 2 counts as 2.
     pub(crate) fn named(&self) -> Hit
         ensures { result ≡ hit_of_plain self.now }
     {
@@ -87,7 +88,7 @@ impl PlainHit {
         }
     }
 
-    /// Why it is none of a wire that so many drive, if it isn't.
+    /// Checks the hit for a wire that `count` nodes drive; otherwise returns why it is invalid.
     pub(crate) fn check(&self, count: usize) -> Result<(), Status>
         ensures refused { IfErr result (λ why. struck_refusal count self.now ≡ Some why) }
         ensures named { IfErr result (λ why. why ≢ Status.Done) }
@@ -103,7 +104,7 @@ impl PlainHit {
     }
 }
 
-/// The offers of plain fields, or the first reason why a frame is none; or there is no memory for them.
+/// The offers of plain fields; otherwise the first reason why a frame is invalid, or [`Status::NoMemory`].
 pub(crate) fn read_offers(alloc: Global, plain: &[PlainOffer]) -> Result<Vec<Offer>, Status>
     ensures offers { IfOk result (λ offers. offers.items ≡ offers_of_plain plain.now) }
     ensures none { OnOk result (offers_refusal plain.now ≡ None) }
@@ -116,7 +117,7 @@ pub(crate) fn read_offers(alloc: Global, plain: &[PlainOffer]) -> Result<Vec<Off
     Ok(offers)
 }
 
-/// The disturbances of plain fields, or the first reason why one is none; or there is no memory for them.
+/// The hits of plain fields; otherwise the first reason why one is invalid, or [`Status::NoMemory`].
 pub(crate) fn read_hits(alloc: Global, plain: &[PlainHit]) -> Result<Vec<Hit>, Status>
     ensures hits { IfOk result (λ hits. hits.items ≡ hits_of_plain plain.now) }
     ensures none { OnOk result (hits_refusal plain.now ≡ None) }

@@ -1,30 +1,30 @@
-//! The controller and the coding of frames as a static library, for C and for what calls C.
+//! The controller, the encoder and decoder of frames, and the bus, as a static library for C.
 //!
-//! Each export does what one call of can_node, can_code or can_bus does, and promises it in the same definitions. What
-//! crosses are numbers, structs of numbers and slices of them: a port is a [`Handle`], a frame a
-//! [`PlainFrame`], a level the number 0 or 1. Every number that is none of a field's is refused by a
-//! [`Status`], and then nothing has changed.
+//! Each export does what a call of can_node, can_code, can_bus or can_conform does. Its contract uses the same
+//! definitions. Arguments are numbers, structs of numbers and slices of them: a port is a [`Handle`], a frame a
+//! [`PlainFrame`], a level the number 0 or 1. A number outside the range of its field is refused with a [`Status`], and
+//! then nothing changes.
 //!
 //! | File | What it has | Defined in |
 //! |---|---|---|
-//! | `status.rt` | [`Status`], what a call answers | `specs/Statuses.antt` |
+//! | `status.rt` | [`Status`], the result of a call | `specs/Statuses.antt` |
 //! | `codes.rt` | the numbers of events and states | can_mac's `specs/Codes.antt`, `specs/Codes.antt` |
 //! | `plain.rt` | [`PlainFrame`], [`PlainHeard`], frames as plain fields | `specs/PlainFrames.antt` |
 //! | `controller.rt` | [`Controller`], a port as one value | can_node's `specs/Ports.antt` |
-//! | `handle.rt` | [`Handle`], a controller on the heap, or none: a plain struct of a pointer and a flag, which code that is not Rattle keeps and hands in again with each call | `specs/Owned.antt` |
-//! | `ports.rt` | the exports that make a port, and what is done at one between two bit times | `specs/Calls.antt` |
-//! | `bit_times.rt` | the exports that take a port through bit times, one or many | `specs/Calls.antt`, `specs/BitTimes.antt` |
-//! | `standing.rt` | [`can_c_phase`], the phase of a port and the rule there | `specs/PlainStandings.antt` |
-//! | `told.rt` | the exports that tell of a port: counters, state, log | `specs/Calls.antt` |
+//! | `handle.rt` | [`Handle`], a controller on the heap, or none: a plain struct of a pointer and a flag, which code that is not Rattle keeps and passes to each call | `specs/Owned.antt` |
+//! | `ports.rt` | the exports that make, copy and free a port, queue a frame, and request overload frames | `specs/Calls.antt` |
+//! | `bit_times.rt` | the exports that pass bit times of a port, one or many | `specs/Calls.antt`, `specs/BitTimes.antt` |
+//! | `standing.rt` | [`can_c_phase`], the phase of a port and the rule that decides in it | `specs/PlainStandings.antt` |
+//! | `told.rt` | the exports that read a port: counters, state, log | `specs/Calls.antt` |
 //! | `coding.rt` | the exports that encode and decode | `specs/Calls.antt` |
-//! | `inputs.rt` | [`PlainOffer`], [`PlainHit`], what a bus is offered and how it is disturbed, as plain fields | `specs/PlainInputs.antt` |
-//! | `play.rt` | [`can_c_play`], the ports of handles on a bus, with offers and disturbances | `specs/Play.antt` |
-//! | `plain_wire.rt` | [`PlainWire`], a wire between two bit times, and [`can_c_wire`], a bit time of it | `specs/PlainWires.antt` |
+//! | `inputs.rt` | [`PlainOffer`], [`PlainHit`], the frames queued on a bus and the injected bit errors, as plain fields | `specs/PlainInputs.antt` |
+//! | `play.rt` | [`can_c_play`], a run of the ports of several handles on one bus, with offers and hits | `specs/Play.antt` |
+//! | `plain_wire.rt` | [`PlainWire`], the state of a bus line between two bit times, and [`can_c_wire`], one bit time of it | `specs/PlainWires.antt` |
 //!
-//! A handle that is all bytes 0 holds none. Which controller it holds is told by its ghost field `held`, as the `PortState`
-//! that can_node's contracts speak of.
+//! A handle with all bytes 0 holds no controller. The ghost field `held` of a handle is the `PortState` of its controller,
+//! as in can_node's contracts.
 //!
-//! bindings/ has the header, what else a program in C needs, and a module for Python.
+//! bindings/ has the header, the rest of what a program in C needs, and a module for Python.
 #![tactic(auto)]
 
 mod bit_times;

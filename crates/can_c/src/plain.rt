@@ -7,45 +7,45 @@ use crate::status::Status;
 use can_code::Heard;
 use can_frame::{Frame, Id};
 
-/// A frame as plain fields. Each content is allowed; what is no frame is refused where it is handed in.
-/// (Bosch CAN 2.0 part B, section 3.2.1)
+/// A frame as plain fields. Any content is allowed; a call refuses what is no frame. (Bosch CAN 2.0 part B, section
+/// 3.2.1)
 #[repr(C)]
 #[derive(Clone, Copy, Debug)]
 pub struct PlainFrame {
-    /// 0 to 2^11 - 1, or to 2^29 - 1 where it is extended.
+    /// 0 to 2^11 - 1; 0 to 2^29 - 1 if it is extended.
     pub identifier: u32,
-    /// 1 where the identifier has 29 bits, else 0.
+    /// 1 if the identifier has 29 bits, otherwise 0.
     pub extended: u8,
-    /// 1 for a remote frame, else 0.
+    /// 1 for a remote frame, otherwise 0.
     pub remote: u8,
     /// The data length code, 0 to 15.
     pub dlc: u8,
-    /// The data bytes. Of these a data frame has the first, as many as the lesser of the DLC and 8, and a remote
-    /// frame none; the others are not read, and written as 0.
+    /// The data bytes. A data frame has the first min(DLC, 8) of them, a remote frame none; the others are not read,
+    /// and returned as 0.
     pub bytes: [u8; 8],
 }
 
-/// A frame as it is heard on the bus, as plain fields: with the levels that a receiver takes at either value, each
-/// 0 for dominant or 1 for recessive. (Bosch CAN 2.0 part B, sections 3.2.1 and 5)
+/// A frame as received, as plain fields, with the bits for which a receiver accepts either level, each 0 for dominant
+/// or 1 for recessive. (Bosch CAN 2.0 part B, sections 3.2.1 and 5)
 #[repr(C)]
 #[derive(Clone, Copy, Debug)]
 pub struct PlainHeard {
     /// The frame.
     pub frame: PlainFrame,
-    /// 1 where a receiver has acknowledged it, else 0.
+    /// 1 if the ACK slot is dominant, otherwise 0.
     pub acknowledged: u8,
-    /// The SRR bit, recessive in a standard frame, which has none.
+    /// The SRR bit; recessive in a standard frame, which has none.
     pub srr: u8,
-    /// The reserved bit r1, dominant in a standard frame, which has none.
+    /// The reserved bit r1; dominant in a standard frame, which has none.
     pub r1: u8,
     /// The reserved bit r0.
     pub r0: u8,
-    /// The last level of the end of frame.
+    /// The last bit of the end of frame.
     pub last: u8,
 }
 
 impl PlainFrame {
-    /// The frame, or the first reason why there is none.
+    /// Returns the frame of these fields, or the first reason why there is none.
     pub fn frame(&self) -> Result<Frame, Status>
         ensures refused { IfErr result (λ why. refusal self.now ≡ Some why) }
         ensures named { IfErr result (λ why. why ≢ Status.Done) }
@@ -67,7 +67,7 @@ impl PlainFrame {
         }
     }
 
-    /// The frame with this identifier, if the DLC is one.
+    /// The frame with this identifier, if the DLC is at most 15.
     fn frame_of(&self, id: Id) -> Option<Frame>
         ensures none { IsNone result → 15 < self.now.dlc }
         ensures within { IfSome result (λ f. self.now.dlc ≤ 15) }
@@ -79,7 +79,7 @@ impl PlainFrame {
         Frame::data(id, self.dlc, self.used_bytes()).ok()
     }
 
-    /// The identifier, if its kind has one of this number.
+    /// The identifier, if it is in the range of its kind.
     fn id(&self) -> Option<Id>
         requires { self.now.extended < 2 }
         ensures none { IsNone result → ident_count (self.now.extended == 1) ≤ self.now.identifier }
@@ -102,7 +102,7 @@ impl PlainFrame {
         &self.bytes[..usize::from(self.dlc).min(8)]
     }
 
-    /// The plain fields of a frame.
+    /// Returns the plain fields of a frame.
     #[tactic(auto, using(crate::proofs::FrameLemmas::few_bytes))]
     pub fn of(frame: &Frame) -> PlainFrame
         ensures { result ≡ plain_frame frame.now }
@@ -118,7 +118,7 @@ impl PlainFrame {
 }
 
 impl PlainHeard {
-    /// The plain fields of what is heard.
+    /// Returns the plain fields of a frame as received.
     pub fn of(heard: &Heard) -> PlainHeard
         ensures { result ≡ plain_heard heard.now }
     {
@@ -133,7 +133,7 @@ impl PlainHeard {
     }
 }
 
-/// These bytes, and zeros behind them.
+/// These bytes, padded with zeros.
 fn padded(bytes: &[u8]) -> [u8; 8]
     requires { length bytes.now ≤ 8 }
     ensures { result ≡ bytes.now ++ replicate (8 - length bytes.now) 0 }

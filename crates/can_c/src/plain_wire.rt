@@ -1,4 +1,4 @@
-//! A wire, bit time by bit time, for controllers of any kind.
+//! A bus line, bit time by bit time, for controllers of any kind.
 ghost use Rattle.std.specs.Prelude.{◌≡◌, ◌≢◌, ◌<◌, ◌-◌, ◌^◌, IfErr, OnOk, Some, None, length, true};
 ghost use Rattle.std.specs.List.{list_any};
 ghost use Rattle.can_frame.specs.Levels.{level_code};
@@ -16,25 +16,25 @@ use crate::status::Status;
 use can_bus::{Attempt, Moment, Wire};
 use can_frame::{IDLE_ROW, Level};
 
-/// A wire between two bit times, as plain fields. Where all are 0 it is before its first bit time, and counts as
-/// recessive for eleven.
+/// The state of a bus line between two bit times, as plain fields. With all fields 0, no bit time has passed, and the
+/// line counts as recessive for eleven bit times.
 #[repr(C)]
 #[derive(Clone, Copy, Debug)]
 pub struct PlainWire {
     /// How many bit times have passed.
     pub time: u64,
-    /// How many attempts to send a frame have begun.
+    /// How many transmission attempts have begun.
     pub attempts: u64,
-    /// The bit time in which the latest of them began. Where there is none it isn't read.
+    /// The bit time in which the latest of them began; not read if there is none.
     pub start: u64,
-    /// How many recessive levels are missing until eleven have come in a row, so that a dominant one behind them begins
-    /// an attempt: 0 to 11.
+    /// How many recessive levels are missing from eleven in a row, after which a dominant level begins an attempt: 0 to
+    /// 11.
     pub until_rest: u8,
 }
 
-/// One bit time of a wire, which is driven by these numbers of levels and disturbed: writes the level that it has, and
-/// what each who drives it sees. The hits may stand in any order, and may be others in each bit time. It takes no
-/// memory.
+/// Passes one bit time of a bus line that nodes drive with these levels, with hits: writes the level of the line, and
+/// the level that each node samples. The hits may be in any order, and may differ from one call to the next. The call
+/// allocates no memory.
 #[tactic(auto, using(crate::proofs::StatusLemmas::done_only, crate::proofs::StatusLemmas::not_done))]
 #[unsafe(no_mangle)]
 pub extern "C" fn can_c_wire(
@@ -67,7 +67,8 @@ pub extern "C" fn can_c_wire(
     }
 }
 
-/// One bit time of a wire that is driven so, and its level; writes what each sees of it.
+/// Passes one bit time of a line with this driven level, returns the level of the line, and writes what each node
+/// samples.
 fn bit_time(wire: &mut PlainWire, driven: Level, hits: &[PlainHit], seen: &mut [u8]) -> Level
     requires { is_wire_of wire.old ≡ true }
     ensures after { wire_of_plain wire.new ≡ wire_step (hits_of_plain hits.now) (wire_of_plain wire.old) driven }
@@ -83,7 +84,7 @@ fn bit_time(wire: &mut PlainWire, driven: Level, hits: &[PlainHit], seen: &mut [
     level
 }
 
-/// What these drive together, by the numbers of their levels.
+/// The level that these nodes drive together.
 fn wired(drives: &[u8]) -> Level
     ensures { result ≡ wired_in drives.now }
 {
@@ -95,7 +96,7 @@ fn wired(drives: &[u8]) -> Level
     Level::Recessive
 }
 
-/// Whether each is a disturbance of a wire that so many drive, or the first reason why one is none.
+/// Checks that each is a hit of a wire that `count` nodes drive; otherwise returns the first reason why one is not.
 fn check_hits(hits: &[PlainHit], count: usize) -> Result<(), Status>
     ensures none { OnOk result (first_reason (struck_refusal count) hits.now ≡ None) }
     ensures why { IfErr result (λ why. first_reason (struck_refusal count) hits.now ≡ Some why) }
@@ -107,35 +108,35 @@ fn check_hits(hits: &[PlainHit], count: usize) -> Result<(), Status>
     Ok(())
 }
 
-/// Whether a hit inverts the level of the wire in this bit time.
+/// Whether a hit inverts the level of the line in this bit time.
 fn falls(hits: &[PlainHit], moment: &Moment) -> bool
     ensures { result ≡ list_any (λ (hit : Plain). hits_wire_of moment.now.time moment.now.attempt (hit_of_plain hit)) hits.now }
 {
     hits.iter().any(|hit| hits_wire(hit, moment))
 }
 
-/// Whether this one does.
+/// Whether this hit does.
 fn hits_wire(hit: &PlainHit, moment: &Moment) -> bool
     ensures { result ≡ hits_wire_of moment.now.time moment.now.attempt (hit_of_plain hit.now) }
 {
     moment.hits_wire(hit.named())
 }
 
-/// Whether a hit inverts what the one of this number sees.
+/// Whether a hit inverts the level that the node of this number samples.
 fn falls_at(hits: &[PlainHit], moment: &Moment, number: usize) -> bool
     ensures { result ≡ list_any (λ (hit : Plain). hits_view_of moment.now.time number (hit_of_plain hit)) hits.now }
 {
     hits.iter().any(|hit| hits_view(hit, moment, number))
 }
 
-/// Whether this one does.
+/// Whether this hit does.
 fn hits_view(hit: &PlainHit, moment: &Moment, number: usize) -> bool
     ensures { result ≡ hits_view_of moment.now.time number (hit_of_plain hit.now) }
 {
     moment.hits_view(number, hit.named())
 }
 
-/// Writes what each sees of the level.
+/// Writes the level that each node samples.
 fn tell_each(hits: &[PlainHit], moment: &Moment, level: Level, seen: &mut [u8])
     ensures { AreCodesOf (wire_seen (hits_of_plain hits.now) moment.now.time level) seen.new }
 {
@@ -144,7 +145,7 @@ fn tell_each(hits: &[PlainHit], moment: &Moment, level: Level, seen: &mut [u8])
     }
 }
 
-/// The number of the level, or of its opposite where it is hit.
+/// The number of the level, or of its inverse if it is hit.
 fn told(hit: bool, level: Level) -> u8
     ensures { result ≡ level_code (inverted_if hit level) }
 {
@@ -156,7 +157,7 @@ fn told(hit: bool, level: Level) -> u8
 }
 
 impl PlainWire {
-    /// Whether it is a wire that can have a bit time more.
+    /// Whether these fields are a wire that can pass one more bit time.
     fn is_wire(&self) -> bool
         ensures { result ≡ is_wire_of self.now }
     {
@@ -165,7 +166,7 @@ impl PlainWire {
             && have_come(self.attempts, self.start, self.time)
     }
 
-    /// The wire.
+    /// The wire of these fields.
     fn wire(&self) -> Wire
         requires { is_wire_of self.now ≡ true }
         ensures { result ≡ wire_of_plain self.now }
@@ -192,14 +193,14 @@ impl PlainWire {
     }
 }
 
-/// Whether so many attempts can have begun before a bit time, the latest in bit time `start`.
+/// Whether `attempts` attempts can have begun before bit time `time`, the latest of them in bit time `start`.
 fn have_come(attempts: u64, start: u64, time: u64) -> bool
     ensures { result ≡ have_come_of attempts start time }
 {
     attempts == 0 || (start < time && attempts - 1 <= start)
 }
 
-/// The latest of them.
+/// The latest of these attempts, if there is one.
 fn latest(attempts: u64, start: u64, time: u64) -> Option<Attempt>
     requires { have_come_of attempts start time ≡ true }
     ensures latest { result ≡ latest_of attempts start time }

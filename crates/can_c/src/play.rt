@@ -1,4 +1,4 @@
-//! A bus of ports that a caller has.
+//! A bus of ports that the caller keeps.
 ghost use Rattle.std.specs.Prelude.{◌≡◌, ◌≢◌, ◌≤◌, ◌⊎◌, ◌↔◌, None, Some, IfErr, IfOk, IsOk, IsSome, OnErr, OnOk, false, length, map, not};
 ghost use Rattle.can_frame.specs.Levels.{levels_of_codes};
 ghost use Rattle.can_hit.specs.Hits.{AreTaken};
@@ -20,14 +20,14 @@ use can_node::{PackedNode, Port};
 use can_wire::write_codes;
 use std::alloc::{AllocError, Global};
 
-/// How many ports a bus may have.
+/// The most ports that a bus may have.
 const MOST_PORTS: usize = 64;
 
-/// Runs a bus of the handles' ports, for as many bit times as there is room for levels, with offers and disturbances, as
-/// [`Bus::play_disturbed`] does: writes the level that is recorded in each, and how many offers a full queue refused.
-/// Each port goes on from where it stands, and its handle holds it behind the call; eleven recessive levels count as
-/// recorded before. Where anything is refused, or there is no memory, nothing has run. What memory it takes is free
-/// behind it.
+/// Runs a bus of the ports of these handles, one bit time for each element of `levels`. Frames are queued and bit
+/// errors injected as by [`Bus::play_disturbed`]. It writes the level of the bus in each bit time, and how many offers
+/// a full queue refused. Each port continues from its present state, and its handle holds it afterwards. The bus counts
+/// as recessive for eleven bit times before the call. If anything is refused, or there is no memory, nothing has run.
+/// The memory that the call allocates is freed before it returns.
 #[tactic(auto, using(crate::proofs::StatusLemmas::done_only, crate::proofs::StatusLemmas::not_done))]
 #[unsafe(no_mangle)]
 pub extern "C" fn can_c_play(
@@ -57,7 +57,7 @@ pub extern "C" fn can_c_play(
     }
 }
 
-/// Runs a bus of the handles' ports, and writes its levels. The answer is how many offers a full queue refused.
+/// Runs a bus of the ports of these handles, writes its levels, and returns how many offers a full queue refused.
 fn play_ports(
     alloc: Global,
     handles: &mut [Handle],
@@ -84,7 +84,7 @@ fn play_ports(
     Ok(count)
 }
 
-/// Whether the handles' ports can be those of a bus.
+/// Checks that there are 1 to 64 handles, each with a port.
 fn check_ports(alloc: Global, handles: &mut [Handle]) -> Result<(), Status>
     ensures why { IfErr result (λ why. ports_refusal (held_in handles.old) ≡ Some why) }
     ensures fits { OnOk result (ports_refusal (held_in handles.old) ≡ None) }
@@ -115,7 +115,8 @@ fn all_hold(alloc: Global, handles: &mut [Handle]) -> bool
     true
 }
 
-/// Runs the handles' ports on a bus, and records its levels. They change places with ports without room, and back.
+/// Runs the ports of these handles on a bus, and records its levels. They are exchanged for ports without capacity
+/// before the run, and back after it.
 fn run(
     alloc: Global,
     handles: &mut [Handle],
@@ -144,7 +145,7 @@ fn run(
     }
 }
 
-/// So many ports without room.
+/// `count` ports without capacity.
 fn empty_nodes(alloc: Global, count: usize) -> Result<Vec<PackedNode>, AllocError>
     ensures { IfOk result (λ nodes. length nodes.items ≡ count) }
 {
@@ -155,7 +156,7 @@ fn empty_nodes(alloc: Global, count: usize) -> Result<Vec<PackedNode>, AllocErro
     Ok(nodes)
 }
 
-/// The handles' ports and these change places.
+/// Exchanges the ports of these handles and these nodes.
 fn exchange_all(alloc: Global, handles: &mut [Handle], nodes: &mut [PackedNode])
     requires each { length handles.old ≡ length nodes.old }
     requires held { lacks_port (held_in handles.old) ≡ false }
@@ -167,7 +168,7 @@ fn exchange_all(alloc: Global, handles: &mut [Handle], nodes: &mut [PackedNode])
     }
 }
 
-/// The port of a handle and another one change places.
+/// Exchanges the port of a handle and a node.
 fn exchange(alloc: Global, handle: &mut Handle, node: &mut PackedNode)
     requires { IsSome handle.old.held }
     ensures handle { handle.new.held ≡ Some (⟦<PackedNode as Port>⟧.port node.old) }
@@ -180,7 +181,7 @@ fn exchange(alloc: Global, handle: &mut Handle, node: &mut PackedNode)
     handle.put(alloc, port);
 }
 
-/// Runs these ports on a bus, records its levels, and gives them back with its answer.
+/// Runs these ports on a bus, records its levels, and returns the ports with the result of the run.
 fn run_nodes(
     nodes: Vec<PackedNode>,
     offers: &[Offer],

@@ -11,8 +11,8 @@ use crate::plain::PlainFrame;
 use crate::status::Status;
 use std::alloc::Global;
 
-/// Makes a port that is on the bus and idle, with room for so many frames that wait and so many entries of the
-/// log, and frees the one that the handle held. Without memory for it nothing changes.
+/// Makes a port that is on the bus and idle. Its transmit queue has space for `queue` frames, its log for `log`
+/// entries. The port that the handle held is freed. If there is no memory, nothing changes.
 #[unsafe(no_mangle)]
 pub extern "C" fn can_c_idle(alloc: Global, handle: &mut Handle, queue: usize, log: usize) -> u8
     ensures answers { result ≢ done → result ≡ status_code Status.NoMemory }
@@ -25,7 +25,8 @@ pub extern "C" fn can_c_idle(alloc: Global, handle: &mut Handle, queue: usize, l
     put(alloc, handle, port)
 }
 
-/// The same, of a port that waits for eleven recessive levels in a row before it is on the bus.
+/// Makes a port that begins with bus integration: it waits for eleven recessive levels in a row before it takes part.
+/// Otherwise it is as that of [`can_c_idle`].
 #[unsafe(no_mangle)]
 pub extern "C" fn can_c_joining(alloc: Global, handle: &mut Handle, queue: usize, log: usize) -> u8
     ensures answers { result ≢ done → result ≡ status_code Status.NoMemory }
@@ -38,8 +39,8 @@ pub extern "C" fn can_c_joining(alloc: Global, handle: &mut Handle, queue: usize
     put(alloc, handle, port)
 }
 
-/// Makes a port that is what another one is, its queue and its log too, and frees the one that the handle held.
-/// Without memory for it nothing changes.
+/// Makes a copy of a port, with its queue and its log. The port that the handle held is freed. If there is no memory,
+/// nothing changes; the original never changes.
 #[unsafe(no_mangle)]
 pub extern "C" fn can_c_copy(alloc: Global, handle: &mut Handle, from: &mut Handle) -> u8
     ensures answers { result ≢ done → result ≡ status_code (copy_refusal from.old.held) }
@@ -58,7 +59,7 @@ pub extern "C" fn can_c_copy(alloc: Global, handle: &mut Handle, from: &mut Hand
     }
 }
 
-/// Puts a copy of a port on the heap and into the handle, if there is memory for it.
+/// Puts a copy of a port on the heap and into the handle, if there is memory.
 fn put_copy(alloc: Global, handle: &mut Handle, port: &Controller) -> u8
     ensures answers { result ≢ done → result ≡ status_code Status.NoMemory }
     ensures made { result ≡ done → handle.new.held ≡ Some port.now }
@@ -70,7 +71,7 @@ fn put_copy(alloc: Global, handle: &mut Handle, port: &Controller) -> u8
     put(alloc, handle, copy)
 }
 
-/// Puts a port on the heap and into the handle, if there is memory for it.
+/// Puts a port on the heap and into the handle, if there is memory.
 fn put(alloc: Global, handle: &mut Handle, port: Controller) -> u8
     ensures answers { result ≢ done → result ≡ status_code Status.NoMemory }
     ensures made { result ≡ done → handle.new.held ≡ Some port }
@@ -91,7 +92,7 @@ pub extern "C" fn can_c_free(alloc: Global, handle: &mut Handle)
     drop(handle.take(alloc));
 }
 
-/// Offers a frame, which then waits behind those that were offered before.
+/// Queues a frame for transmission, at the end of the queue. If the call is refused, the port does not change.
 #[tactic(auto, using(crate::proofs::StatusLemmas::done_only, crate::proofs::StatusLemmas::not_done))]
 #[unsafe(no_mangle)]
 pub extern "C" fn can_c_offer(alloc: Global, handle: &mut Handle, frame: &PlainFrame) -> u8
@@ -102,7 +103,7 @@ pub extern "C" fn can_c_offer(alloc: Global, handle: &mut Handle, frame: &PlainF
     with_port!(alloc, handle, |port| offer(&mut port, frame))
 }
 
-/// Offers a frame at a port.
+/// Queues a frame at a port.
 fn offer(port: &mut Controller, frame: &PlainFrame) -> Status
     ensures status { result ≡ offer_status (Some port.old) frame.now }
     ensures offered { result ≡ Status.Done → port.new ≡ port_offered (frame_of_plain frame.now) port.old }
@@ -117,7 +118,7 @@ fn offer(port: &mut Controller, frame: &PlainFrame) -> Status
     }
 }
 
-/// Asks for so many overload frames of the port's own, 0 to 2, in place of an earlier wish.
+/// Requests overload frames, 0 to 2, in place of an earlier request. If the call is refused, the port does not change.
 #[unsafe(no_mangle)]
 pub extern "C" fn can_c_hold(alloc: Global, handle: &mut Handle, count: u8) -> u8
     ensures status { result ≡ status_code (hold_status handle.old.held count) }

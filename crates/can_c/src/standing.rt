@@ -10,22 +10,22 @@ use can_conform::{Rule, phase_rule};
 use can_mac::{PackedMac, Phase, Role};
 use std::alloc::Global;
 
-/// Where a port stands before a bit time, as it crosses to C.
+/// The protocol state of a port before a bit time, as plain fields.
 #[repr(C)]
 #[derive(Clone, Copy, Debug)]
 pub struct PlainStanding {
     /// The number of its phase.
     pub phase: u8,
-    /// How much of the phase has come: up to 118 unstuffed levels of a frame, up to 127 rows off the bus, and less of
-    /// the others.
+    /// The progress within the phase, 0 in phases of one bit: at most 118 unstuffed bits of a frame, at most 127 times
+    /// eleven recessive levels during bus-off, and less in other phases.
     pub place: u8,
-    /// 1 where it is the sender of the frame on the bus, else 0.
+    /// 1 if it is the transmitter of the frame on the bus, otherwise 0.
     pub sender: u8,
     /// The number of the rule that decides in the phase.
     pub rule: u8,
 }
 
-/// Writes where the port stands before the next bit time.
+/// Writes the phase of the port before the next bit time, and the rule that decides in it.
 #[unsafe(no_mangle)]
 pub extern "C" fn can_c_phase(
     alloc: Global,
@@ -44,7 +44,7 @@ pub extern "C" fn can_c_phase(
 }
 
 impl PlainStanding {
-    /// Where a controller stands.
+    /// The plain fields of a controller's protocol state.
     fn of(access: &PackedMac) -> PlainStanding
         ensures { result ≡ plain_standing access.now }
     {
@@ -58,12 +58,12 @@ impl PlainStanding {
     }
 }
 
-/// The number of a controller's phase, and how much of it has come.
+/// The number of a controller's phase, and the progress within it.
 fn phase_of(access: &PackedMac) -> (u8, u8)
     ensures phase { result.0 ≡ phase_code (phase_name access.now) }
     ensures place { result.1 ≡ phase_place (phase_name access.now) }
 {
-    // Who asks what it drives knows how many levels of a frame it may have heard.
+    // The contract of `drive` bounds how many bits of a frame the controller may have received.
     let _ = access.drive(None);
     match access.phase() {
         Phase::Joining { row } => (0, *row),
@@ -84,7 +84,7 @@ fn phase_of(access: &PackedMac) -> (u8, u8)
     }
 }
 
-/// The number of what a controller is to the frame on the bus.
+/// The number of a role: 1 for the transmitter of the frame on the bus, 0 for a receiver.
 fn part_code(role: &Role) -> u8
     ensures { result ≡ part_code_of (part_of role.now) }
 {

@@ -5,18 +5,18 @@ use can_bus::BusFault;
 use can_code::CodeFaultKind;
 use std::alloc::{AllocError, AllocFailed};
 
-/// What a call answers.
+/// The result of a call.
 #[derive(Clone, Copy, Debug, PartialEq, Eq)]
 pub enum Status {
-    /// The call has done what it says.
+    /// The call has done what it promises.
     Done,
     /// The handle holds no port: none was made, or it was freed.
     NoPort,
-    /// There was no memory for the port.
+    /// There was no memory for the port, or for the run of a bus.
     NoMemory,
-    /// The queue of the port is full.
+    /// The transmit queue is full.
     QueueFull,
-    /// The log has no entry of this number.
+    /// The log has no entry with this number.
     NoEntry,
     /// `extended` or `remote` is neither 0 nor 1.
     BadFlag,
@@ -26,36 +26,36 @@ pub enum Status {
     BadDlc,
     /// A level is neither 0 nor 1.
     BadLevel,
-    /// More than two overload frames were asked for.
+    /// More than two overload frames were requested.
     BadCount,
-    /// No levels were handed in.
+    /// There are no levels to sample.
     NoLevels,
-    /// A list for what is told is too short.
+    /// A slice is too small for what it is to hold, or differs in length from the others.
     NoRoom,
     /// The levels end before the frame does.
     ShortFrame,
-    /// The first level is recessive.
+    /// The first level is recessive, so it is no start of frame.
     NoStart,
-    /// A stuff place repeats the level before it.
+    /// Stuff error: a sixth equal level in a row.
     StuffFault,
-    /// The check sequence is wrong.
+    /// The CRC sequence is wrong.
     CrcFault,
-    /// A level of fixed form is dominant.
+    /// Form error: a delimiter, or one of the first six bits of the end of frame, is dominant.
     FormFault,
-    /// There are no ports for a bus, or more than 64.
+    /// A bus has no ports, or more than 64.
     BadBus,
-    /// An offer or a disturbance names no port of the bus.
+    /// An offer or a hit names no port of the bus.
     NoSuchPort,
-    /// An offer is earlier than the one before it, or a disturbance is not above it.
+    /// An offer is earlier than the previous one, or a hit is not above the previous one.
     BadOrder,
-    /// A disturbance is of no kind.
+    /// The kind of a hit is above 2.
     BadKind,
-    /// A wire is none, or has had 2^64 - 1 bit times.
+    /// The fields of a wire are out of range, or it has had 2^64 - 1 bit times.
     BadWire,
 }
 
 impl Status {
-    /// Its number.
+    /// Returns the number of the status.
     pub fn code(self) -> u8
         ensures { result ≡ status_code self }
     {
@@ -85,7 +85,7 @@ impl Status {
         }
     }
 
-    /// The status of a fault of levels.
+    /// The status of a decoding fault.
     pub(crate) fn of_fault(kind: CodeFaultKind) -> Status
         ensures { result ≡ levels_status kind }
     {
@@ -98,7 +98,7 @@ impl Status {
         }
     }
 
-    /// The status of a fault that a bus tells.
+    /// The status of a fault that a bus reports.
     pub(crate) fn of_bus(fault: BusFault) -> Status
         ensures { result ≡ bus_status fault }
     {

@@ -49,7 +49,7 @@ pub extern "C" fn can_c_state(alloc: Global, handle: &mut Handle, state: &mut u8
     })
 }
 
-/// Writes how many entries the log has.
+/// Writes the number of entries in the log.
 #[unsafe(no_mangle)]
 pub extern "C" fn can_c_log_length(alloc: Global, handle: &mut Handle, count: &mut usize) -> u8
     ensures status { result ≡ status_code (port_status handle.old.held) }
@@ -63,7 +63,7 @@ pub extern "C" fn can_c_log_length(alloc: Global, handle: &mut Handle, count: &m
     })
 }
 
-/// Writes how many entries the log had no room for.
+/// Writes the number of entries for which the log had no capacity.
 #[unsafe(no_mangle)]
 pub extern "C" fn can_c_missed(alloc: Global, handle: &mut Handle, count: &mut u32) -> u8
     ensures status { result ≡ status_code (port_status handle.old.held) }
@@ -77,8 +77,8 @@ pub extern "C" fn can_c_missed(alloc: Global, handle: &mut Handle, count: &mut u
     })
 }
 
-/// Writes the entry of the log with this number, the oldest having 0: its frame, and 1 where it was sent, 0 where it
-/// was received.
+/// Writes the entry of the log with this number; the oldest is 0. It consists of a frame, and of 1 if the port sent it,
+/// 0 if it received it.
 #[tactic(auto, using(crate::proofs::StatusLemmas::done_only, crate::proofs::StatusLemmas::not_done))]
 #[unsafe(no_mangle)]
 pub extern "C" fn can_c_entry(

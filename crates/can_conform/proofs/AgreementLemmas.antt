@@ -45,9 +45,9 @@ reached-start told p event counter held = record {
   held = some-each _ told.counters (λ counters. held ∙ sym (told_before-first no_counts counters.items));
 }
 
--- ---- a bit time in which nothing is told
+-- ---- a bit time for which nothing is listed
 
--- the counters told last stay
+-- the counters listed last stay
 counters-stay : (told : Transcript) (p : Progress) (t : ℕ) → IsTold told → HasReached told p t → IfSome told.counters (λ counters. item_at counters.items t ≡ None)
     → IfSome told.counters (λ counters. p.held ≡ told_before no_counts counters.items (t + 1))
 counters-stay told p t is reached none =
@@ -69,13 +69,13 @@ pub quiet-reached : (told : Transcript) (p : Progress) (t : ℕ) → IsTold told
     → IfSome told.counters (λ counters. item_at counters.items t ≡ None) → HasReached told p (t + 1)
 quiet-reached told p t is reached events counters no_change = record { events = events; counters = counters; held = counters-stay told p t is reached no_change }
 
--- ---- behind all that is told
+-- ---- after all that is listed
 
 pub counters-start : (begin : Start) → no_counts ≡ counters_of (started begin)
 counters-start start.Idle = refl
 counters-start start.Joining = refl
 
--- the counters told before this time are those of the run, where they agree at each time before
+-- the counters listed before this time are those of the run, if they agree at each time before
 counters-agree : (s : Script) (told : Transcript) (h : ℕ) → ((t : ℕ) → t < h → AgreesAt told t (moment_at s t)) →
     IfSome told.counters (λ counters. told_before no_counts counters.items h ≡ counters_of (before s h))
 counters-agree s told zero agrees =
@@ -116,7 +116,7 @@ agrees-all s told h bits levels events counters agrees t = elim (cases_order t h
           ∙ ap counters_of (before-past s h bits ∙ sym (before-past s (t + 1) (omega arith)))) counters (counters-agree s told h agrees);
     }
 
--- a port stands where it stood as the case ended
+-- a port is in the state in which the case ended
 pub stands-past : (s : Script) (t : ℕ) (p : PortState) (now : Rule) (since : Option (Timed Event)) → length s.tester.items ≤ t → IsStanding s t p now since → IsStanding s (length s.tester.items) p now since
 stands-past s t p now since past stands = record {
   port = stands.port ∙ before-past s t past;

@@ -28,7 +28,7 @@ or-not-as : {P Q : Type 0} → (P → Q) → (Q → P) → OrNot P → OrNot Q
 or-not-as to from (holds p) = holds (to p)
 or-not-as to from (fails never) = fails (λ q. never (from q))
 
--- told by something that leads back
+-- equality is decided by a code that can be decoded
 told-by : {A B : Type 0} (code : A → B) (back : B → A) → ((a : A) → back (code a) ≡ a) → ((x y : B) → OrNot (x ≡ y)) → (a b : A) → OrNot (a ≡ b)
 told-by code back round decides a b = or-not-as (λ e. sym (round a) ∙ ap back e ∙ round b) (λ e. ap code e) (decides (code a) (code b))
 
@@ -126,7 +126,7 @@ kind-back (suc (suc zero)) = Crc
 kind-back (suc (suc (suc zero))) = Form
 kind-back (suc (suc (suc (suc n)))) = Ack
 
--- an event by a number, and the frame that it tells
+-- an event as a number, and the frame that it has
 abbrev event-code : Event → ℕ × Option Parts
 event-code (Sent f) = (0, Some f)
 event-code (Received f) = (1, Some f)

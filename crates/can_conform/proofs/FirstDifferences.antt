@@ -18,7 +18,7 @@ use Rattle.can_conform.specs.Walks.{IsDifferenceAt}
 use Rattle.can_conform.proofs.AgreementLemmas.{agrees-all, agrees-more, difference-is, some-map}
 use Rattle.can_conform.proofs.Deciding.{OrNot, holds, fails, same-counts, same-ending, same-event, same-level, same-option}
 
--- what is told, if it is told, is this, or something else
+-- what is listed, if anything, is this, or something else
 is-or-differs : {A B : Type 0} → ((x y : B) → OrNot (x ≡ y)) → (o : Option A) (f : A → B) (b : B) →
     IfSome o (λ x. f x ≡ b) ⊎ ((c : B) × IsSomeAnd o (λ x. f x ≡ c) × (c ≢ b))
 is-or-differs decides None f b = inl tt
@@ -56,7 +56,7 @@ before-time s told (suc n) = elim (before-time s told n) [
 ends-later : {A : Type 0} (xs : List (Timed A)) (early late : ℕ) → EndBefore xs early → early ≤ late → EndBefore xs late
 ends-later xs early late ends h = λ n x at. let e : x.time < early = ends n x at in omega arith
 
--- all bit times agree, or there is a first difference, where all that is told comes before a limit
+-- all bit times agree, or there is a first difference, if all that is listed comes before a limit
 all-times : (s : Script) (told : Transcript) (limit : ℕ) → length told.drove.items < limit → IfSome told.events (λ events. EndBefore events.items limit) →
     IfSome told.counters (λ counters. EndBefore counters.items limit) → ((t : ℕ) → AgreesAt told t (moment_at s t)) ⊎ ((f : Failure) × IsFirst s told f)
 all-times s told limit levels events counters = elim (before-time s told (length s.tester.items + limit)) [

@@ -18,7 +18,7 @@ last-or-before (z ∷ xs) x y (suc n) at = elim (last-or-before xs x y n at) [
   | inr last ↦ inr (ap suc last.0, last.1)
 ]
 
--- what is told, with one more at its end
+-- what is listed, with one more element at the end
 item_at-more : {A : Type 0} (xs : List (Timed A)) (x : Timed A) (t : ℕ) → (item_at (xs ++ x ∷ []) t ≡ item_at xs t) ⊎ (x.time ≡ t)
 item_at-more [] x t = elim (cases_order x.time t) [
   | inl same ↦ inr same
@@ -40,7 +40,7 @@ item_at-last (y ∷ xs) x t ends now =
     let other : (y.time == t) ≡ false = grind (arith, nat_tests) in
     ap (λ b. if b then Some y.told else item_at (xs ++ x ∷ []) t) other ∙ item_at-last xs x t (λ n z at. ends (suc n) z at) now
 
--- all that comes before bit time n is told, and nothing else
+-- the list has all elements before bit time n, and no others
 pub record IsToldUpTo {A : Type 0} (at : ℕ → Option A) (xs : List (Timed A)) (n : ℕ) : Type 0 where
   pub rising : AreRising xs
   pub each : (t : ℕ) → t < n → item_at xs t ≡ at t

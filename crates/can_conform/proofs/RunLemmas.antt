@@ -55,7 +55,7 @@ level-within s t within =
     let some = slice_get-get_or s.tester.items t tester.Recessive within in
     (port_drives (handed s t (before s t)), ap (λ o. driven_in o s t (before s t)) some)
 
--- ---- behind the last bit time nothing happens
+-- ---- after the last bit time nothing happens
 
 tester-past : (s : Script) (t : ℕ) → length s.tester.items ≤ t → slice_get s.tester.items t ≡ None
 tester-past s t past = slice_get_past s.tester.items t past
@@ -122,7 +122,7 @@ moment-same s t drove event q level told after =
     ∙ ap (λ e. let m : Moment = record { drove = (moment_at s t).drove; event = e; counters = counters_of q } in m) told
     ∙ ap (λ r. let m : Moment = record { drove = (moment_at s t).drove; event = (moment_at s t).event; counters = counters_of r } in m) after
 
--- ---- one bit time of a port that stands where the run does
+-- ---- one bit time of a port in the state of the run
 
 -- what it did is the moment of the run
 pub moment-met : (s : Script) (t : ℕ) (x : TesterLevel) (p q : PortState) (drove : Option Level) (event : Option Event) → slice_get s.tester.items t ≡ Some x → p ≡ before s t → q ≡ before s (t + 1) →
@@ -137,9 +137,9 @@ pub moment-still : (s : Script) (t : ℕ) (q : PortState) → slice_get s.tester
 moment-still s t q none after =
     moment-same s t None None q (sym (ap (λ o. driven_in o s t (before s t)) none)) (sym (ap (λ o. event_of o s t (before s t)) none)) after
 
--- ---- where it stands, one bit time further
+-- ---- its state, one bit time later
 
--- the rule behind a bit time of the case, from what it did in it
+-- the rule after a bit time of the case, from what the port did in it
 pub rule-met : (s : Script) (t : ℕ) (x : TesterLevel) → slice_get s.tester.items t ≡ Some x →
     rule_behind (moment_at s t).event (phase_name (before s t).mac) (seen_by x (unwrap_or (moment_at s t).drove Recessive)) (before s (t + 1)).mac ≡ rule_before s (t + 1)
 rule-met s t x here =
@@ -149,14 +149,14 @@ rule-met s t x here =
     ∙ ap behind_it here
     ∙ sym (rule-more s t ∙ ap (λ o. next_rule o s t p (rule_before s t)) here)
 
--- behind the case it stays
+-- after the case it stays
 pub rule-stays : (s : Script) (t : ℕ) → slice_get s.tester.items t ≡ None → rule_before s (t + 1) ≡ rule_before s t
 rule-stays s t none = rule-more s t ∙ ap (λ o. next_rule o s t (before s t) (rule_before s t)) none
 
 pub since-stays : (s : Script) (t : ℕ) → slice_get s.tester.items t ≡ None → since_before s (t + 1) ≡ since_before s t
 since-stays s t none = since-more s t ∙ ap (λ o. last_event (event_of o s t (before s t)) t (since_before s t)) none
 
--- ---- a port that stands where the run does
+-- ---- a port in the state of the run
 
 pub port-met : (s : Script) (t : ℕ) (x : TesterLevel) (p q : PortState) → slice_get s.tester.items t ≡ Some x → p ≡ before s t → q ≡ met x (handed s t p) → q ≡ before s (t + 1)
 port-met s t x p q here port is = is ∙ ap (λ r. met x (handed s t r)) port ∙ sym (before-more s t ∙ ap (λ o. behind o s t (before s t)) here)

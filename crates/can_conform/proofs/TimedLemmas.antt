@@ -8,7 +8,7 @@ use Rattle.can_conform.specs.declared.timed.Timed.{Timed}
 use Rattle.can_conform.specs.Transcripts.{item_at, told_before, AreRising, EndBefore}
 use Rattle.can_conform.specs.Walks.{HasWalked}
 
--- ---- what is told at a time
+-- ---- the element of a time
 
 pub item_at-none : {A : Type 0} (xs : List (Timed A)) (t : ℕ) → ((n : ℕ) (x : Timed A) → slice_get xs n ≡ Some x → x.time ≢ t) → item_at xs t ≡ None
 item_at-none [] t none = refl
@@ -53,7 +53,7 @@ rising-ahead xs rising m n x y h at to = elim (cases_order m n) [
   ]
 ]
 
--- ---- what was told last
+-- ---- the last element before a time
 
 pub told_before-first : {A : Type 0} (held : A) (xs : List (Timed A)) → told_before held xs 0 ≡ held
 told_before-first held [] = refl
@@ -98,7 +98,7 @@ told_before_more held (x ∷ xs) t rising = elim (cases_order x.time t) [
   ]
 ]
 
--- behind all of them
+-- after all of them
 pub told_before-past : {A : Type 0} (held : A) (xs : List (Timed A)) (end t : ℕ) → EndBefore xs end → end ≤ t → told_before held xs t ≡ told_before held xs end
 told_before-past held [] end t ends past = refl
 told_before-past held (x ∷ xs) end t ends past =

@@ -58,18 +58,18 @@ told-first x xs =
     let here : (x.time == x.time) ≡ true = grind (arith, nat_tests) in
     ap (λ b. if b then Some x.told else item_at xs x.time) here
 
--- before the first of rising times nothing is told
+-- before the first of rising times there is no element
 told-early : {A : Type 0} (x : Timed A) (xs : List (Timed A)) (t : ℕ) → AreRising (x ∷ xs) → t < x.time → item_at (x ∷ xs) t ≡ None
 told-early x xs t rising early =
     item_at-none (x ∷ xs) t (λ n y at. let h : x.time ≤ y.time = rising-ahead (x ∷ xs) rising 0 n x y (omega arith) refl at in omega arith)
 
--- behind it the others tell what is told
+-- after it the element of a time is among the others
 told-rest : {A : Type 0} (x : Timed A) (xs : List (Timed A)) (t : ℕ) → x.time ≢ t → item_at (x ∷ xs) t ≡ item_at xs t
 told-rest x xs t apart =
     let other : (x.time == t) ≡ false = grind (arith, nat_tests) in
     ap (λ b. if b then Some x.told else item_at xs t) other
 
--- and none of them tells at its time
+-- and none of them has its time
 told-once : {A : Type 0} (x : Timed A) (xs : List (Timed A)) (t : ℕ) → AreRising (x ∷ xs) → x.time ≡ t → item_at xs t ≡ None
 told-once x xs t rising now = item_at-none xs t (λ n y at. let h : x.time < y.time = rising-first x xs rising n y at in omega arith)
 
@@ -98,7 +98,7 @@ same-first x y xs ys one other same = elim (cases_order x.time y.time) [
   ]
 ]
 
--- rising times that tell the same are the same
+-- lists with rising times and the same elements are the same
 same-told : {A : Type 0} (xs ys : List (Timed A)) → AreRising xs → AreRising ys → ((t : ℕ) → item_at xs t ≡ item_at ys t) → xs ≡ ys
 same-told [] [] one other same = refl
 same-told [] (y ∷ ys) one other same = let e : None ≡ Some y.told = same y.time ∙ told-first y ys in absurd (let k : ⊥ = cc in k)

@@ -44,7 +44,7 @@ no-end s told t one other is agrees =
     let same : one ≡ script_end s = subst (λ o. IfSome o (λ end. end ≡ script_end s)) is.is_told agrees in
     is.differs (same ∙ is.ought)
 
--- where a bit time agrees and a difference is there, it is that of the end
+-- if a bit time agrees and there is a difference, it is that of the end
 ends-there : (s : Script) (told : Transcript) (t : ℕ) (d : Difference) → AgreesAt told t (moment_at s t) → IsDifference s told t d →
     (t ≡ length s.tester.items) × ((u : ℕ) → AgreesAt told u (moment_at s u))
 ends-there s told t (difference.Level one other) agrees is = absurd (no-level told t (moment_at s t) one other is agrees.level)

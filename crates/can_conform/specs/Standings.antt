@@ -1,5 +1,5 @@
--- Where a controller stands before a bit time: its phase by name, its part in the frame, and the rule of
--- docs/ACCESS.md that decides there. (Bosch CAN 2.0 part B, sections 3.2 and 7)
+-- The state of a controller before a bit time: its phase by name, its part in the frame, and the rule of docs/ACCESS.md
+-- that decides in the phase. (Bosch CAN 2.0 part B, sections 3.2 and 7)
 use Rattle.std.specs.Prelude.{ℕ, ◌==◌, if◌then◌else◌, length, Option, Some, None}
 use Rattle.can_frame.specs.declared.level.Level.{Level}
 use Rattle.can_frame.specs.declared.level.Level.TheVariants.{Dominant, Recessive}
@@ -20,8 +20,8 @@ use Rattle.can_conform.specs.declared.standing.Part.TheVariants as part
 use Rattle.can_conform.specs.declared.standing.Rule.{Rule}
 use Rattle.can_conform.specs.declared.standing.Rule.TheVariants as rule
 
--- the phase, and how many of its levels have come; of bus off, which lasts for 128 rows of eleven recessive levels,
--- how many of these rows
+-- the name of a phase, with how many of its levels have passed; during bus-off, which lasts 128 sequences of eleven
+-- recessive levels, how many of these have passed
 abbrev pub phase_named : MacPhase → ℕ → PhaseName
 phase_named (Joining row) rows = name.Joining row
 phase_named Idle rows = name.Idle
@@ -39,14 +39,17 @@ phase_named (Intermission place) rows = name.Intermission place
 phase_named (Suspend place) rows = name.Suspend place
 phase_named BusOff rows = name.BusOff rows
 
+-- the name of a controller's phase
 abbrev pub phase_name : MacState → PhaseName
 phase_name m = phase_named m.phase m.counters.occurrences
 
+-- the role of a controller in the frame on the bus
 abbrev pub part_of : Role → Part
 part_of Receiver = part.Receiver
 part_of (Sender f) = part.Sender
 
--- in the stuffed part: at a stuff place and for a receiver, up to the sender's RTR bit, and behind it
+-- the rule between start of frame and CRC sequence: stuff places for a receiver and at a stuff bit; for a transmitter
+-- arbitration, up to and including its RTR bit, and then the frame that it keeps
 abbrev pub stuffed_rule : FrontParts → Role → Rule
 stuffed_rule front Receiver = rule.StuffPlaces
 stuffed_rule front (Sender f) =
@@ -71,7 +74,7 @@ phase_rule (Intermission place) role = rule.Intermission
 phase_rule (Suspend place) role = rule.SuspendTransmission
 phase_rule BusOff role = rule.BusOff
 
--- an error of the stuffed part
+-- the rule by which an error between start of frame and CRC sequence starts a flag
 abbrev pub stuffed_error_rule : ErrorKind → Rule
 stuffed_error_rule Bit = rule.Arbitration
 stuffed_error_rule Stuff = rule.StuffPlaces
@@ -79,7 +82,7 @@ stuffed_error_rule Crc = rule.Arbitration
 stuffed_error_rule Form = rule.Arbitration
 stuffed_error_rule Ack = rule.Arbitration
 
--- an error at the ACK delimiter
+-- the rule by which an error at the ACK delimiter starts a flag
 abbrev pub ack_delimiter_rule : ErrorKind → Rule
 ack_delimiter_rule Bit = rule.FixedForm
 ack_delimiter_rule Stuff = rule.FixedForm
@@ -87,8 +90,8 @@ ack_delimiter_rule Crc = rule.RefusedCheckSequence
 ack_delimiter_rule Form = rule.FixedForm
 ack_delimiter_rule Ack = rule.FixedForm
 
--- the rule by which an error in this phase starts a flag. In a passive flag and behind a flag, between frames and
--- off the bus there is no error.
+-- the rule by which an error in this phase starts a flag. There is no error in a passive flag, after a flag, between
+-- frames and during bus-off.
 abbrev pub error_rule : PhaseName → ErrorKind → Rule
 error_rule (name.Joining row) kind = rule.Joining
 error_rule name.Idle kind = rule.StartOfFrame
@@ -106,14 +109,14 @@ error_rule (name.Intermission place) kind = rule.Intermission
 error_rule (name.Suspend place) kind = rule.SuspendTransmission
 error_rule (name.BusOff rows) kind = rule.BusOff
 
--- what starts an overload flag at the end of a frame or of a delimiter: a dominant last level, or a wish of
--- the controller's own
+-- the rule by which the last level of a frame or of a delimiter starts an overload flag: that of a dominant last level,
+-- or an overload request of the controller itself
 abbrev pub last_level_rule : Rule → Level → Rule
 last_level_rule last Dominant = last
 last_level_rule last Recessive = rule.OwnOverloadFrames
 
--- the rule by which a level in this phase starts an overload flag, which it does at the end of a frame, at that of
--- a delimiter, and in intermission alone
+-- the rule by which a level in this phase starts an overload flag; one starts only at the end of a frame, at the end of
+-- a delimiter, and in intermission
 abbrev pub overload_rule : PhaseName → Level → Rule
 overload_rule (name.EndOfFrame place) x = last_level_rule rule.DominantLastLevel x
 overload_rule (name.Delimiter place) x = last_level_rule rule.Delimiter x
@@ -131,8 +134,8 @@ overload_rule (name.BehindFlag dominant) x = rule.OverloadFlags
 overload_rule (name.Suspend place) x = rule.OverloadFlags
 overload_rule (name.BusOff rows) x = rule.OverloadFlags
 
--- the rule for the bit time behind one that had this event, where the controller was in the first phase as the
--- level was seen, and is in the state that follows: for the first level of a flag the rule that started it
+-- the rule for the bit time after one with this event, in which the controller was in this phase and saw this level,
+-- and after which it is in state `next`: for the first level of a flag, the rule that started it
 abbrev pub rule_behind : Option Event → PhaseName → Level → MacState → Rule
 rule_behind None phase x next = phase_rule next.phase next.role
 rule_behind (Some (Sent f)) phase x next = phase_rule next.phase next.role

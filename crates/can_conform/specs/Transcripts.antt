@@ -1,4 +1,4 @@
--- Transcripts: what a controller did in a case, told by bit time, and the transcript of a run.
+-- Transcripts: what a controller did in a case, by bit time, and the transcript of a run.
 use Rattle.std.specs.Prelude.{ℕ, zero, suc, ◌≡◌, ◌+◌, ◌<◌, ◌^◌, ◌-◌, length, ◌==◌, nat_lt, Bool, ◌&&◌, if◌then◌else◌, List, [], ◌∷◌, ◌++◌, Option, Some, None, IfSome, IsSomeAnd, option_to_list, slice_get}
 use Rattle.can_frame.specs.declared.level.Level.{Level}
 use Rattle.can_mac.specs.declared.event.Event.{Event}
@@ -9,24 +9,24 @@ use Rattle.can_conform.specs.declared.transcript.Counters.{Counters}
 use Rattle.can_conform.specs.declared.transcript.Transcript.{Transcript}
 use Rattle.can_conform.specs.Runs.{before, counters_of, script_end, moment_at}
 
--- ---- what lists of timed things tell
+-- ---- lists of elements with their times
 
--- what is told at time t
+-- the element of time t, if there is one
 abbrev pub item_at : {A : Type 0} → List (Timed A) → ℕ → Option A
 item_at [] t = None
 item_at (x ∷ xs) t = if x.time == t then Some x.told else item_at xs t
 
--- what was told last before time t, or this where nothing was
+-- the last element before time t; `held` if there is none
 abbrev pub told_before : {A : Type 0} → A → List (Timed A) → ℕ → A
 told_before held [] t = held
 told_before held (x ∷ xs) t = if nat_lt x.time t then told_before x.told xs t else held
 
--- what comes at time t, if something does
+-- the list of the element of time t, if there is one
 abbrev pub at_time : {A : Type 0} → ℕ → Option A → List (Timed A)
 at_time t None = []
 at_time t (Some x) = record { time = t; told = x } ∷ []
 
--- their times rise
+-- their times rise strictly
 abbrev pub AreRising : {A : Type 0} → List (Timed A) → Type 0
 AreRising {A} xs =
     (m n : ℕ) (x y : Timed A) → m < n
@@ -40,7 +40,7 @@ EndBefore {A} xs t = (n : ℕ) (x : Timed A) → slice_get xs n ≡ Some x → x
 abbrev pub no_counts : Counters
 no_counts = record { transmit = 0; receive = 0 }
 
--- what holds of each transcript: its times rise, and times and levels are fewer than a number of 32 bits tells
+-- what the judge requires of a transcript: its times rise, and times and number of levels are below 2^32 - 1
 pub record IsTold (told : Transcript) : Type 0 where
   pub levels : length told.drove.items < 2 ^ 32 - 1
   pub events : IfSome told.events (λ events. AreRising events.items)
@@ -48,32 +48,33 @@ pub record IsTold (told : Transcript) : Type 0 where
   pub events_end : IfSome told.events (λ events. EndBefore events.items (2 ^ 32 - 1))
   pub counters_end : IfSome told.counters (λ counters. EndBefore counters.items (2 ^ 32 - 1))
 
--- ---- what a transcript tells is that of the run
+-- ---- a transcript agrees with the run
 
--- what it tells of bit time t is this: the level; the event, where events are told; the counters behind it, where
--- counters are told
+-- what it lists for bit time t is this: the level; the event, if events are listed; the counters after it, if counters
+-- are listed
 pub record AgreesAt (told : Transcript) (t : ℕ) (m : Moment) : Type 0 where
   pub level : slice_get told.drove.items t ≡ m.drove
   pub event : IfSome told.events (λ events. item_at events.items t ≡ m.event)
   pub counters : IfSome told.counters (λ counters. told_before no_counts counters.items (t + 1) ≡ m.counters)
 
--- all that it tells is that of the run
+-- all that it lists is that of the run
 pub record Agrees (s : Script) (told : Transcript) : Type 0 where
   pub each : (t : ℕ) → AgreesAt told t (moment_at s t)
   pub end : IfSome told.end (λ end. end ≡ script_end s)
 
 -- ---- the transcript of the run
 
+-- both counters are equal
 abbrev pub same_counters : Counters → Counters → Bool
 same_counters c d = (c.transmit == d.transmit) && (c.receive == d.receive)
 
--- the counters behind bit time t, where it changed one
+-- the counters after bit time t, if it changed one
 abbrev pub changed_in : Script → ℕ → Option Counters
 changed_in s t =
     if same_counters (counters_of (before s (t + 1))) (counters_of (before s t)) then None
     else Some (counters_of (before s (t + 1)))
 
--- each of these times is told, and no other
+-- the list has exactly these elements, with strictly rising times
 pub record Tells {A : Type 0} (at : ℕ → Option A) (xs : List (Timed A)) : Type 0 where
   pub rising : AreRising xs
   pub each : (t : ℕ) → item_at xs t ≡ at t
@@ -92,9 +93,9 @@ pub record IsTranscript (s : Script) (told : Transcript) : Type 0 where
   pub counters : IsSomeAnd told.counters (λ counters. Tells (changed_in s) counters.items)
   pub end : told.end ≡ Some (script_end s)
 
--- ---- the same, one bit time behind another
+-- ---- the transcript of the run, bit time by bit time
 
--- what comes before bit time n
+-- the elements before bit time n
 unfoldable pub told_upto : {A : Type 0} → (ℕ → Option A) → ℕ → List (Timed A)
 told_upto at zero = []
 told_upto at (suc n) = told_upto at n ++ at_time n (at n)
@@ -104,6 +105,7 @@ unfoldable pub driven_upto : Script → ℕ → List Level
 driven_upto s zero = []
 driven_upto s (suc n) = driven_upto s n ++ option_to_list (moment_at s n).drove
 
+-- the levels of the run, its events, and its changes of a counter
 abbrev pub levels_of : Script → List Level
 levels_of s = driven_upto s (length s.tester.items)
 

@@ -1,5 +1,5 @@
--- What a judge says of a transcript: that it passes, or its first difference from the run. In one bit time a level
--- comes before an event, and an event before counters; the end is last.
+-- The verdict on a transcript: pass, or its first difference from the run. In one bit time a level comes before an
+-- event, and an event before counters; the end is last.
 use Rattle.std.specs.Prelude.{ℕ, ◌≡◌, ◌≢◌, ◌+◌, ◌<◌, length, Option, Some, IfSome, IsSomeAnd, slice_get}
 use Rattle.can_frame.specs.declared.level.Level.{Level}
 use Rattle.can_mac.specs.declared.event.Event.{Event}
@@ -16,20 +16,20 @@ use Rattle.can_conform.specs.declared.transcript.Transcript.{Transcript}
 use Rattle.can_conform.specs.Runs.{script_end, moment_at, standing_before}
 use Rattle.can_conform.specs.Transcripts.{Agrees, AgreesAt, no_counts, item_at, told_before}
 
--- another level is told, or one too many, or none where there ought to be one
+-- the level differs from the expected one: another level, one too many, or a missing one
 pub record IsLevel (told : Transcript) (t : ℕ) (m : Moment) (one other : Option Level) : Type 0 where
   pub is_told : slice_get told.drove.items t ≡ one
   pub ought : m.drove ≡ other
   pub differs : one ≢ other
 
--- another event is told, or one where there is none, or none where there is one
+-- the event differs from the expected one: another event, one too many, or a missing one
 pub record IsEvent (told : Transcript) (t : ℕ) (m : Moment) (one other : Option Event) : Type 0 where
   pub level : slice_get told.drove.items t ≡ m.drove
   pub is_told : IsSomeAnd told.events (λ events. item_at events.items t ≡ one)
   pub ought : m.event ≡ other
   pub differs : one ≢ other
 
--- other counters are told
+-- the counters differ from the expected ones
 pub record AreCounters (told : Transcript) (t : ℕ) (m : Moment) (one other : Counters) : Type 0 where
   pub level : slice_get told.drove.items t ≡ m.drove
   pub event : IfSome told.events (λ events. item_at events.items t ≡ m.event)
@@ -37,7 +37,7 @@ pub record AreCounters (told : Transcript) (t : ℕ) (m : Moment) (one other : C
   pub ought : m.counters ≡ other
   pub differs : one ≢ other
 
--- all else agrees, and another end is told
+-- everything before agrees, and the end differs from the expected one
 pub record IsEnd (s : Script) (told : Transcript) (t : ℕ) (one other : Ending) : Type 0 where
   pub behind : t ≡ length s.tester.items
   pub each : (u : ℕ) → AgreesAt told u (moment_at s u)
@@ -52,13 +52,13 @@ IsDifference s told t (difference.Event one other) = IsEvent told t (moment_at s
 IsDifference s told t (difference.Counters one other) = AreCounters told t (moment_at s t) one other
 IsDifference s told t (difference.End one other) = IsEnd s told t one other
 
--- the first difference, and where the reference stands before it
+-- the first difference, and the state of the reference before it
 pub record IsFirst (s : Script) (told : Transcript) (f : Failure) : Type 0 where
   pub before : (t : ℕ) → t < f.time → AgreesAt told t (moment_at s t)
   pub here : IsDifference s told f.time f.difference
   pub standing : f.standing ≡ standing_before s f.time
 
--- what is said of a transcript
+-- the verdict on a transcript
 abbrev pub IsVerdict : Script → Transcript → Verdict → Type 0
 IsVerdict s told Pass = Agrees s told
 IsVerdict s told (Fail failure) = IsFirst s told failure

@@ -1,4 +1,4 @@
--- How far the judge has come along a run and a transcript: words of private contracts and of proofs.
+-- How far the judge has come in a run and a transcript: definitions of private contracts and of proofs.
 use Rattle.std.specs.Prelude.{ℕ, ◌≡◌, ◌<◌, ◌≤◌, ◌%◌, Bool, true, false, List, [], ◌∷◌, get_or, Option, Some, IfSome, slice_get}
 use Rattle.can_mac.specs.declared.event.Event.{Event}
 use Rattle.can_node.specs.Ports.{PortState}
@@ -25,32 +25,32 @@ pub record IsStanding (s : Script) (t : ℕ) (p : PortState) (now : Rule) (since
 abbrev pub IsMarked : ℕ → ℕ → ℕ → List Bool → Type 0
 IsMarked other t last marks = t ≤ other → other ≤ last → get_or marks (other % 256) false ≡ true
 
--- those in which these come are
+-- the bit times of these elements are marked, from t to the last
 abbrev pub AreMarked : {A : Type 0} → List (Timed A) → ℕ → ℕ → List Bool → Type 0
 AreMarked [] t last marks = Unit {0}
 AreMarked (x ∷ xs) t last marks = IsMarked x.time t last marks × AreMarked xs t last marks
 
--- what was marked is
+-- marks that were set are set
 abbrev pub KeepsMarks : List Bool → List Bool → Type 0
 KeepsMarks old new = (n : ℕ) → get_or old n false ≡ true → get_or new n false ≡ true
 
--- the bit times from t on in which frames or wishes of the case come are marked, as far as is told
+-- the marks show in which bit times frames or requests of the case come, from t to the last
 pub record Foresees (s : Script) (t : ℕ) (o : Outlook) : Type 0 where
   pub offers : AreMarked s.offers.items t o.last o.marks
   pub holds : AreMarked s.holds.items t o.last o.marks
 
--- the walk along them stands at this time: each before this place is earlier, and no other is
+-- the walk along a list has reached this time: each element before this place is earlier, and no other is
 pub record HasWalked {A : Type 0} (xs : List (Timed A)) (place time : ℕ) : Type 0 where
   pub passed : (n : ℕ) (x : Timed A) → n < place → slice_get xs n ≡ Some x → x.time < time
   pub ahead : (n : ℕ) (x : Timed A) → place ≤ n → slice_get xs n ≡ Some x → time ≤ x.time
 
--- the walk along a transcript stands at this time
+-- the walk along a transcript has reached this time
 pub record HasReached (told : Transcript) (p : Progress) (t : ℕ) : Type 0 where
   pub events : IfSome told.events (λ events. HasWalked events.items p.event t)
   pub counters : IfSome told.counters (λ counters. HasWalked counters.items p.counter t)
   pub held : IfSome told.counters (λ counters. p.held ≡ told_before no_counts counters.items t)
 
--- the difference of bit time t, in which the reference does this
+-- the difference of bit time t, in which the reference does `m`
 abbrev pub IsDifferenceAt : Transcript → ℕ → Moment → Difference → Type 0
 IsDifferenceAt told t m (difference.Level one other) = IsLevel told t m one other
 IsDifferenceAt told t m (difference.Event one other) = IsEvent told t m one other

@@ -1,4 +1,4 @@
-//! The reference at its bench: it is played through a case bit time by bit time.
+//! The test bench: plays the reference through a case, bit time by bit time.
 ghost use Rattle.std.specs.Prelude.{◌≡◌, ◌<◌, ◌+◌, ◌-◌, ◌^◌, ◌==◌, if◌then◌else◌, IfOk};
 ghost use Rattle.can_node.specs.Ports.{port_drives, with_offer};
 ghost use Rattle.can_conform.specs.Runs.{all_handed, before, handed, met, moment_at, told_event, wished};
@@ -40,7 +40,7 @@ fn offer_at<P: Port>(port: &mut P, offer: &Timed<Frame>, time: u32)
     }
 }
 
-/// Hands over the wishes of this time, in their order.
+/// Passes on the overload requests of this time, in their order.
 fn wish_all<P: Port>(port: &mut P, holds: &[Timed<u8>], time: u32)
     ensures { P.port port.new ≡ all_handed wished holds.now time (P.port port.old) }
 {
@@ -49,7 +49,7 @@ fn wish_all<P: Port>(port: &mut P, holds: &[Timed<u8>], time: u32)
     }
 }
 
-/// Hands over a wish, if this is its time.
+/// Passes on an overload request, if this is its time.
 fn wish_at<P: Port>(port: &mut P, hold: &Timed<u8>, time: u32)
     ensures { P.port port.new ≡ (if hold.now.time == time then wished hold.now.told (P.port port.old) else P.port port.old) }
 {
@@ -73,7 +73,7 @@ impl Bench {
         })
     }
 
-    /// Plays the next bit time. Behind the end of the case nothing happens.
+    /// Plays the next bit time. After the end of the case nothing happens.
     pub(crate) fn step(&mut self, script: &Script) -> Moment
         requires port { ⟦<PackedNode as Port>⟧.port self.old.node ≡ before script.now self.old.time }
         requires foresees { Foresees script.now self.old.time self.old.outlook }
@@ -100,7 +100,7 @@ impl Bench {
         }
     }
 
-    /// Plays a bit time that the case has, with this tester.
+    /// Plays a bit time of the case, with this tester level.
     fn play(&mut self, script: &Script, tester: TesterLevel) -> (Level, Option<Event>)
         requires { Foresees script.now self.old.time self.old.outlook }
         ensures port { ⟦<PackedNode as Port>⟧.port self.new.node ≡ met tester (handed script.now self.old.time (⟦<PackedNode as Port>⟧.port self.old.node)) }
@@ -115,7 +115,7 @@ impl Bench {
     }
 }
 
-/// Hands over the frames and wishes of this time, which are looked through only where some may come.
+/// Passes on the frames and requests of this time. The lists are searched only if some may come.
 fn hand_over_due<P: Port>(port: &mut P, script: &Script, time: u32, outlook: &mut Outlook)
     requires { Foresees script.now time outlook.old }
     ensures port { P.port port.new ≡ handed script.now time (P.port port.old) }
@@ -126,7 +126,7 @@ fn hand_over_due<P: Port>(port: &mut P, script: &Script, time: u32, outlook: &mu
     }
 }
 
-/// Hands over the frames and wishes of this time.
+/// Passes on the frames and requests of this time.
 fn hand_over<P: Port>(port: &mut P, script: &Script, time: u32)
     ensures { P.port port.new ≡ handed script.now time (P.port port.old) }
 {

@@ -9,9 +9,8 @@ use crate::timed::Timed;
 use crate::transcript::{Counters, Transcript};
 use std::alloc::{AllocError, Global};
 
-/// What the reference does in a case: the levels that it drives, its events, its counters behind each bit
-/// time that changed one, and what it has come to behind the last one. It fails only where an allocation
-/// does.
+/// Returns what the reference does in a case. That is: the levels that it drives, its events, its counters after each
+/// bit time that changed one, and its state and counters after the last bit time. It fails only if an allocation fails.
 pub fn expect(alloc: Global, script: &Script) -> Result<Transcript, AllocError>
     requires { length script.now.tester.items < 2 ^ 32 - 1 }
     ensures { IfOk result (IsTranscript script.now) }
@@ -36,7 +35,7 @@ pub fn expect(alloc: Global, script: &Script) -> Result<Transcript, AllocError>
     })
 }
 
-/// The new counters, where they are others.
+/// The new counters, if they differ from the old ones.
 fn change(held: Counters, now: Counters) -> Option<Counters>
     ensures { result ≡ (if same_counters now held then None else Some now) }
 {
@@ -53,7 +52,7 @@ fn push_some<T: Drop>(list: &mut Vec<T>, element: Option<T>) -> Result<(), Alloc
     Ok(())
 }
 
-/// Appends what comes at this time, if something does.
+/// Appends the element of this time, if there is one.
 fn push_timed<T: Drop>(
     list: &mut Vec<Timed<T>>,
     time: u32,

@@ -1,4 +1,4 @@
-//! The judge: whether a transcript tells what the reference does.
+//! The judge: whether a transcript agrees with the run of the reference.
 ghost use Rattle.std.specs.Prelude.{ℕ, ◌≡◌, ◌≢◌, ◌≤◌, ◌<◌, ◌^◌, ◌-◌, ◌+◌, false, length, IfOk, IfSome, IsNone, IsSome, IsSomeAnd, IsTrue, None, slice_get};
 ghost use Rattle.can_conform.specs.Runs.{moment_at};
 ghost use Rattle.can_conform.specs.Transcripts.{no_counts, item_at, told_before, AgreesAt, AreRising, EndBefore, IsTold};
@@ -18,10 +18,10 @@ use can_mac::Event;
 use can_node::{PackedNode, Port};
 use std::alloc::{AllocError, Global};
 
-/// How a transcript differs from the run of the reference: what it tells, and what it ought to tell.
+/// How a transcript differs from the run of the reference: the actual value, then the expected one.
 #[derive(Clone, Copy, Debug)]
 pub enum Difference {
-    /// A level: none is told where there are too few, and none ought to be where there are too many.
+    /// A level: the actual one is `None` if there are too few, the expected one if there are too many.
     Level {
         told: Option<Level>,
         ought: Option<Level>,
@@ -31,19 +31,19 @@ pub enum Difference {
         told: Option<Event>,
         ought: Option<Event>,
     },
-    /// The counters behind the bit time.
+    /// The counters after the bit time.
     Counters {
         told: Counters,
         ought: Counters,
     },
-    /// What the controller has come to behind the last bit time.
+    /// The state and the counters after the last bit time.
     End {
         told: Ending,
         ought: Ending,
     },
 }
 
-/// The first difference, at its bit time, and where the reference stands before it.
+/// The first difference, its bit time, and the state of the reference before it.
 #[derive(Clone, Copy, Debug)]
 pub struct Failure {
     pub time: u32,
@@ -51,16 +51,16 @@ pub struct Failure {
     pub standing: Standing,
 }
 
-/// What is said of a transcript.
+/// The verdict on a transcript.
 #[derive(Clone, Copy, Debug)]
 pub enum Verdict {
-    /// All that it tells is what the reference does.
+    /// All that it lists is that of the run of the reference.
     Pass,
     Fail(Failure),
 }
 
-/// How far a transcript has been compared: the places of its next event and of its next counters, and the
-/// counters that it told last.
+/// How far a transcript has been compared: the indices of its next event and its next counters, and the counters that
+/// it listed last.
 #[derive(Clone, Copy)]
 pub(crate) struct Progress {
     pub(crate) event: usize,
@@ -68,10 +68,10 @@ pub(crate) struct Progress {
     pub(crate) held: Counters,
 }
 
-/// Holds a transcript against the run of the reference, and answers whether all that it tells is that of
-/// the run, or the first difference. In one bit time a level comes before an event, and an event before
-/// counters; the end is last. Behind the first difference nothing is judged. It fails only where an
-/// allocation does.
+/// Compares a transcript with the run of the reference. It returns a pass if all that the transcript lists agrees,
+/// otherwise the first difference. The earliest bit time is first; in it a level comes before an event, and an event
+/// before counters. The end is last. Nothing after the first difference is judged. It fails only if an allocation
+/// fails.
 pub fn judge(alloc: Global, script: &Script, transcript: &Transcript) -> Result<Verdict, AllocError>
     requires short { length script.now.tester.items < 2 ^ 32 - 1 }
     requires told { IsTold transcript.now }
@@ -99,7 +99,7 @@ pub fn judge(alloc: Global, script: &Script, transcript: &Transcript) -> Result<
     Ok(concluded(script, transcript, &bench, &watch))
 }
 
-/// What is said where all bit times agree.
+/// The verdict if all bit times agree.
 fn concluded(script: &Script, transcript: &Transcript, bench: &Bench, watch: &Watch) -> Verdict
     requires short { length script.now.tester.items < 2 ^ 32 - 1 }
     requires agrees { (t : ℕ) → AgreesAt transcript.now t (moment_at script.now t) }
@@ -142,8 +142,8 @@ fn difference_at(
     counters_difference(&transcript.counters, progress, moment.counters, time)
 }
 
-/// Whether this bit time brings nothing but the level and the counters that it ought to, as most do: no event is told
-/// and none ought to be, and the counters that were told last are those that ought to be.
+/// Whether this bit time has the expected level and counters, and no event, as most have: no event is listed and none
+/// expected, and the counters that were listed last are the expected ones.
 fn is_quiet(transcript: &Transcript, progress: &Progress, moment: &Moment, time: u32) -> bool
     requires told { IsTold transcript.now }
     requires reached { HasReached transcript.now progress.now time }
@@ -162,14 +162,14 @@ fn is_quiet(transcript: &Transcript, progress: &Progress, moment: &Moment, time:
     is_level(&transcript.drove, moment.drove, time)
 }
 
-/// Whether the level that is told is the one that ought to be.
+/// Whether the actual level is the expected one.
 fn is_level(levels: &[Level], ought: Option<Level>, time: u32) -> bool
     ensures { IsTrue result → slice_get levels.now time ≡ ought }
 {
     levels.get(time as usize).copied() == ought
 }
 
-/// Whether something of a list is told at this time, which the walk has reached.
+/// Whether an element of the list has this time. The elements before `place` are earlier, the others are not.
 fn comes<T>(list: &Option<Vec<Timed<T>>>, place: usize, time: u32) -> bool
     requires rising { IfSome list.now (λ list. AreRising list.items) }
     requires reached { IfSome list.now (λ list. HasWalked list.items place time) }
@@ -182,7 +182,7 @@ fn comes<T>(list: &Option<Vec<Timed<T>>>, place: usize, time: u32) -> bool
     }
 }
 
-/// Whether what stands at a place of a list is told at this time, which the walk has reached.
+/// Whether the element at this place has this time. The elements before it are earlier, the others are not.
 fn is_next<T>(list: &[Timed<T>], place: usize, time: u32) -> bool
     requires rising { AreRising list.now }
     requires reached { HasWalked list.now place time }
@@ -195,7 +195,7 @@ fn is_next<T>(list: &[Timed<T>], place: usize, time: u32) -> bool
     }
 }
 
-/// Where the level that is told is not the one that ought to be.
+/// The difference, if the actual level is not the expected one.
 fn level_difference(levels: &[Level], ought: Option<Level>, time: u32) -> Option<Difference>
     ensures none { IsNone result → slice_get levels.now time ≡ ought }
     ensures some { IfSome result (λ d. d ≡ Difference.Level (slice_get levels.now time) ought) }
@@ -208,7 +208,7 @@ fn level_difference(levels: &[Level], ought: Option<Level>, time: u32) -> Option
     Some(Difference::Level { told, ought })
 }
 
-/// Where events are told, and this is not the one that ought to be.
+/// The difference, if events are listed, and this is not the expected one.
 fn event_difference(
     events: &Option<Vec<Timed<Event>>>,
     progress: &mut Progress,
@@ -234,7 +234,7 @@ fn event_difference(
     Some(Difference::Event { told, ought })
 }
 
-/// Where counters are told, and they are not those that ought to be.
+/// The difference, if counters are listed, and they are not the expected ones.
 fn counters_difference(
     counters: &Option<Vec<Timed<Counters>>>,
     progress: &mut Progress,
@@ -261,7 +261,7 @@ fn counters_difference(
     Some(Difference::Counters { told, ought })
 }
 
-/// The counters that are told behind this bit time.
+/// The counters that the transcript lists last, up to and including this bit time.
 #[tactic(auto, using(crate::proofs::TimedLemmas::told_before_more))]
 fn counters_told(counters: &[Timed<Counters>], progress: &mut Progress, time: u32) -> Counters
     requires rising { AreRising counters.now }
@@ -278,7 +278,7 @@ fn counters_told(counters: &[Timed<Counters>], progress: &mut Progress, time: u3
     told
 }
 
-/// What is told at this time, which the walk has reached.
+/// The element of this time, if there is one. The elements before `place` are earlier, the others are not.
 fn next_at<T: Copy>(list: &[Timed<T>], place: &mut usize, time: u32) -> Option<T>
     requires rising { AreRising list.now }
     requires reached { HasWalked list.now place.old time }
@@ -294,7 +294,7 @@ fn next_at<T: Copy>(list: &[Timed<T>], place: &mut usize, time: u32) -> Option<T
     }
 }
 
-/// The first bit time behind the case and all that a transcript tells.
+/// The first bit time after the case and all that a transcript lists.
 fn horizon(script: &Script, transcript: &Transcript) -> u32
     requires told { IsTold transcript.now }
     requires short { length script.now.tester.items < 2 ^ 32 - 1 }
@@ -310,7 +310,7 @@ fn horizon(script: &Script, transcript: &Transcript) -> u32
     levels.max(events).max(counters)
 }
 
-/// The first time behind all of a list, if it is there.
+/// The first time after all of a list, if it is there.
 fn end_of_some<T>(list: &Option<Vec<Timed<T>>>) -> u32
     requires rising { IfSome list.now (λ list. AreRising list.items) }
     requires limit { IfSome list.now (λ list. EndBefore list.items (2 ^ 32 - 1)) }
@@ -323,7 +323,7 @@ fn end_of_some<T>(list: &Option<Vec<Timed<T>>>) -> u32
     }
 }
 
-/// The first time behind all of a list.
+/// The first time after all of a list.
 fn end_of_times<T>(list: &[Timed<T>]) -> u32
     requires rising { AreRising list.now }
     requires limit { EndBefore list.now (2 ^ 32 - 1) }

@@ -1,4 +1,4 @@
-//! Laws of the definitions, each a function that does nothing and ensures it.
+//! Laws of the definitions: each is a function with an empty body, and its contract is the theorem.
 ghost use Rattle.std.specs.Prelude.{◌≡◌, IsSomeAnd};
 ghost use Rattle.can_conform.specs.declared.judging.Failure.{Failure as FirstDifference};
 ghost use Rattle.can_conform.specs.declared.judging.Verdict.{Verdict as Judgement};
@@ -7,8 +7,8 @@ ghost use Rattle.can_conform.specs.declared.transcript.Transcript.{Transcript as
 ghost use Rattle.can_conform.specs.Transcripts.{changes_of, events_of, levels_of, Agrees, IsTold, IsTranscript, TellsRun};
 ghost use Rattle.can_conform.specs.Verdicts.{IsFirst, IsVerdict};
 
-/// A case has exactly one transcript: there are levels, events and changes of a counter that are those of its run,
-/// each transcript of the case has just these, and it agrees with the run.
+/// A case has exactly one transcript: the levels, events and counter changes of its run. Each transcript of the case
+/// has just these, and agrees with the run.
 pub fn one_transcript()
     ensures exists { (s : Case) → TellsRun s (levels_of s) (events_of s) (changes_of s) }
     ensures levels { (s : Case) (told : Record) → IsTranscript s told → told.drove.items ≡ levels_of s }
@@ -17,8 +17,8 @@ pub fn one_transcript()
     ensures agrees { (s : Case) (told : Record) → IsTranscript s told → Agrees s told }
 {}
 
-/// A transcript has exactly one verdict: it agrees with the run or has a first difference, never both, and no
-/// other first difference.
+/// A transcript that `judge` accepts has exactly one verdict: it agrees with the run, or has one first difference. No
+/// transcript has both, or two verdicts.
 pub fn one_verdict()
     ensures some { (s : Case) (told : Record) → IsTold told → (verdict : Judgement) × IsVerdict s told verdict }
     ensures apart { (s : Case) (told : Record) (failure : FirstDifference) → Agrees s told → IsFirst s told failure → ⊥ }

@@ -1,19 +1,20 @@
-//! The judge of the conformance kit: what the reference does in a test case, and whether a controller's
-//! transcript tells the same. (docs/CONFORMANCE.md)
+//! The judge of the conformance kit: the run of the reference in a test case, and whether a controller's transcript
+//! agrees with it. (docs/CONFORMANCE.md)
 //!
-//! A case is played against a **lower tester**, which shares the wire with one controller: in each bit time
-//! the controller drives a level, which its past alone decides, and the tester drives its own; the bus is
-//! dominant where one of them is. A [`Script`] says what the tester drives and what the controller is handed.
+//! A case is played against a **lower tester**, which shares the bus with one controller. In each bit time the
+//! controller drives a level, which depends only on its past, and the tester drives its own. The bus is dominant if
+//! either drives dominant. A [`Script`] says what the tester drives, and which frames and overload requests the
+//! controller gets.
 //!
-//! What a program calls:
+//! Calls:
 //!
-//! - [`expect`] answers what the reference does in a case, a [`Transcript`].
-//! - [`judge`] holds the transcript of another controller against it, if it [is told](Transcript::is_told) by rising
-//!   times, and tells the first difference: a [`Failure`] with the phase in which the reference is before that bit time and the rule of docs/ACCESS.md
-//!   that decides there.
-//! - [`started_node`] is the reference by itself, to be played as a case comes: frames are handed to it by
-//!   `offer` and wishes by `hold`, as to any port, [`meet`] is one bit time with the tester, and [`ending_of`]
-//!   tells what it has come to.
+//! - [`expect`] returns what the reference does in a case, a [`Transcript`].
+//! - [`judge`] compares the transcript of another controller with it, if its [times rise](Transcript::is_told). It
+//!   returns a pass, or the first difference: a [`Failure`], with the phase of the reference before that bit time and
+//!   the rule of docs/ACCESS.md that decides in it.
+//! - [`started_node`] returns the reference itself, for a case that comes bit by bit. It gets frames with `offer` and
+//!   overload requests with `hold`, as any port. [`meet`] passes one bit time with the tester, and [`ending_of`]
+//!   returns its state and counters.
 //!
 //! | File | What it has | Defined in |
 //! |---|---|---|
@@ -21,9 +22,9 @@
 //! | `timed.rt` | [`Timed`], something with its bit time | |
 //! | `meeting.rt` | [`started_node`], and [`meet`], one bit time of a port with the tester | `specs/Runs.antt` |
 //! | `moment.rt` | [`Moment`], what the reference does in a bit time | `specs/Runs.antt` |
-//! | `bench.rt` | the reference, played through a case | `specs/Runs.antt` |
-//! | `outlook.rt` | in which bit times frames or wishes come | `specs/Walks.antt` |
-//! | `watch.rt` | where the reference stands, from bit time to bit time | `specs/Runs.antt` |
+//! | `bench.rt` | the test bench: the reference, played through a case | `specs/Runs.antt` |
+//! | `outlook.rt` | in which bit times frames or requests come | `specs/Walks.antt` |
+//! | `watch.rt` | the rule that decides in each bit time, and the last event before it | `specs/Runs.antt` |
 //! | `standing.rt` | [`Standing`]: phase, part and rule by name | `specs/Standings.antt` |
 //! | `transcript.rt` | [`Transcript`], what a controller did, and whether its times rise | `specs/Transcripts.antt` |
 //! | `expecting.rt` | [`expect`] | `specs/Transcripts.antt` |

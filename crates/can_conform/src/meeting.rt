@@ -1,4 +1,4 @@
-//! The reference, and one bit time of a controller that shares the wire with the tester.
+//! The reference, and one bit time of a controller that shares the bus with the tester.
 ghost use Rattle.std.specs.Prelude.{◌≡◌, IfOk};
 ghost use Rattle.can_node.specs.Ports.{port_drives};
 ghost use Rattle.can_conform.specs.Runs.{counters_of as counters_of_port, ending_of as ending_of_port, met, seen_by, sees, started, told_event};
@@ -10,23 +10,23 @@ use can_mac::Event;
 use can_node::{PackedNode, Port};
 use std::alloc::{AllocError, Global};
 
-/// How many frames may wait at the reference: as many as a case offers.
+/// The capacity of the reference's queue: a case of the kit offers at most 256 frames.
 const QUEUE_ROOM: usize = 256;
 
-/// What a controller makes of one bit time.
+/// What a controller does in one bit time.
 #[derive(Clone, Copy, Debug)]
 pub struct Meeting {
     /// The level that it drove.
     pub drove: Level,
     /// The level that it saw.
     pub seen: Level,
-    /// What the bit time brought.
+    /// The event of the bit time.
     pub event: Option<Event>,
 }
 
 impl TesterLevel {
-    /// What a controller sees that drives this level: the bus is dominant where it or the tester drives
-    /// dominant, and forced it sees a recessive level.
+    /// Returns the level that a controller sees if it drives this one. The bus is dominant if the controller or the
+    /// tester drives dominant. In a forced bit time the controller sees recessive.
     pub fn seen_by(self, drives: Level) -> Level
         ensures { result ≡ seen_by self drives }
     {
@@ -38,8 +38,8 @@ impl TesterLevel {
     }
 }
 
-/// The reference before bit time 0: a new port, with room for 256 frames. It fails only where an allocation
-/// does.
+/// Returns the reference before bit time 0: a new port with a queue for 256 frames, and a log without capacity. It
+/// fails only if an allocation fails.
 pub fn started_node(alloc: Global, start: Start) -> Result<PackedNode, AllocError>
     ensures { IfOk result (λ node. ⟦<PackedNode as Port>⟧.port node ≡ started start) }
 {
@@ -49,7 +49,7 @@ pub fn started_node(alloc: Global, start: Start) -> Result<PackedNode, AllocErro
     }
 }
 
-/// One bit time of a port with this tester, behind the frames and wishes of that time.
+/// Passes one bit time of a port with this tester, after the frames and requests of that time.
 pub fn meet<P: Port>(port: &mut P, tester: TesterLevel) -> Meeting
     ensures port { P.port port.new ≡ met tester (P.port port.old) }
     ensures drove { result.drove ≡ port_drives (P.port port.old) }
@@ -62,7 +62,7 @@ pub fn meet<P: Port>(port: &mut P, tester: TesterLevel) -> Meeting
     Meeting { drove, seen, event }
 }
 
-/// A port's error counters.
+/// Returns the error counters of a port.
 pub fn counters_of<P: Port>(port: &P) -> Counters
     ensures { result ≡ counters_of_port (P.port port.now) }
 {
@@ -70,7 +70,7 @@ pub fn counters_of<P: Port>(port: &P) -> Counters
     Counters { transmit, receive }
 }
 
-/// What a port has come to.
+/// Returns the state of fault confinement and the error counters of a port.
 pub fn ending_of<P: Port>(port: &P) -> Ending
     ensures { result ≡ ending_of_port (P.port port.now) }
 {

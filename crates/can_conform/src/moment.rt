@@ -8,6 +8,6 @@ pub struct Moment {
     /// The level that it drives, if the case has this bit time.
     pub drove: Option<Level>,
     pub event: Option<Event>,
-    /// Its counters behind it.
+    /// Its counters after the bit time.
     pub counters: Counters,
 }

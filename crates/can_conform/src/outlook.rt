@@ -1,4 +1,4 @@
-//! In which bit times a case has frames or wishes: most have none.
+//! In which bit times of a case frames or requests come: in most there are none.
 ghost use Rattle.std.specs.Prelude.{◌≡◌, ◌≤◌, ◌+◌, IsFalse};
 ghost use Rattle.can_node.specs.Ports.{PortState};
 ghost use Rattle.can_conform.specs.declared.script.Script.{Script};
@@ -8,18 +8,18 @@ ghost use Rattle.can_conform.specs.Walks.{AreMarked, Foresees, IsMarked, KeepsMa
 use crate::script::Script;
 use crate::timed::Timed;
 
-/// How many bit times one look tells of. Chosen for speed, but the definitions of a look have this number too.
+/// For how many bit times one search is valid. Chosen for speed, but its definitions have this number too.
 const SIGHT: usize = 256;
 
-/// The last bit time before the first look: a short case needs none. Chosen for speed alone.
+/// The last bit time before the first search, so a short case needs none. Chosen only for speed.
 const LAST_UNSEEN: u32 = 31;
 
-/// The bit times ahead in which frames or wishes come.
+/// The following bit times in which frames or requests come.
 #[derive(Drop)]
 pub(crate) struct Outlook {
-    /// Whether some may come in a bit time, by its remainder.
+    /// Whether some may come in a bit time, by its remainder modulo 256.
     pub(crate) marks: [bool; SIGHT],
-    /// The last bit time that this tells of.
+    /// The last bit time for which the marks are valid.
     pub(crate) last: u32,
 }
 
@@ -34,7 +34,7 @@ impl Outlook {
         }
     }
 
-    /// Whether frames or wishes may come in this bit time. It looks through them once in many bit times.
+    /// Whether frames or requests may come in this bit time. It searches the lists at most once in 256 bit times.
     pub(crate) fn may_come(&mut self, script: &Script, time: u32) -> bool
         requires { Foresees script.now time self.old }
         ensures foresees { Foresees script.now (time + 1) self.new }
@@ -44,7 +44,7 @@ impl Outlook {
         self.marks[time as usize % SIGHT]
     }
 
-    /// Looks ahead, if it doesn't tell of this bit time.
+    /// Searches the lists, if the marks are not valid for this bit time.
     fn reach(&mut self, script: &Script, time: u32)
         requires { Foresees script.now time self.old }
         ensures foresees { Foresees script.now time self.new }
@@ -55,7 +55,7 @@ impl Outlook {
         }
     }
 
-    /// Looks through the frames and wishes for those from this bit time on.
+    /// Searches the frames and requests for those from this bit time on.
     fn look(&mut self, script: &Script, time: u32)
         ensures foresees { Foresees script.now time self.new }
         ensures reaches { time ≤ self.new.last }
@@ -67,7 +67,7 @@ impl Outlook {
     }
 }
 
-/// Marks the bit times of these from this one to the last.
+/// Marks the bit times of these elements, from this one to the last.
 fn mark_all<T>(marks: &mut [bool; SIGHT], list: &[Timed<T>], time: u32, last: u32)
     ensures marked { AreMarked list.now time last marks.new }
     ensures kept { KeepsMarks marks.old marks.new }

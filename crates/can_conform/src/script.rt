@@ -1,7 +1,7 @@
 use crate::timed::Timed;
 use can_frame::Frame;
 
-/// What the bus was before bit time 0.
+/// The state of the bus before bit time 0.
 #[derive(Clone, Copy, Debug, PartialEq, Eq)]
 pub enum Start {
     /// The controller has seen at least eleven recessive levels.
@@ -17,12 +17,12 @@ pub enum TesterLevel {
     Dominant,
     /// It drives recessive.
     Recessive,
-    /// It drives recessive, and the controller sees a recessive level whatever it drives itself.
+    /// It drives recessive, and the controller sees recessive, whatever it drives itself.
     Forced,
 }
 
-/// A case as it is played: what the tester does in each bit time, the frames that the controller is offered
-/// and how many overload frames of its own it is asked for, each at the beginning of its bit time.
+/// A case as it is played: what the tester does in each bit time, and the frames and overload requests that the
+/// controller gets, each at the beginning of its bit time.
 #[derive(Debug, Drop)]
 pub struct Script {
     pub start: Start,

@@ -1,5 +1,5 @@
-//! Where the reference stands before a bit time: its phase, its part in the frame, and the rule of
-//! docs/ACCESS.md that decides there.
+//! The state of the reference before a bit time: its phase, its part in the frame, and the rule of docs/ACCESS.md that
+//! decides in the phase.
 ghost use Rattle.std.specs.Prelude.{◌≡◌};
 ghost use Rattle.can_conform.specs.Standings.{error_rule as error_rule_of, overload_rule as overload_rule_of, part_of, phase_name as phase_name_of, phase_named as phase_named_of, phase_rule as phase_rule_of, rule_behind as rule_behind_of, stuffed_rule as stuffed_rule_of};
 
@@ -8,13 +8,13 @@ use can_code::{FrameBits, Front, Place, rtr_place};
 use can_frame::Level;
 use can_mac::{ErrorKind, Event, MediumAccess, Phase, Role};
 
-/// Where a verdict says that the reference is: how far it is in a phase is how many of its levels have come.
+/// The phase of the reference in a verdict. The number is how many levels of the phase have passed.
 #[derive(Clone, Copy, Debug, PartialEq, Eq)]
 pub enum PhaseName {
-    /// So many recessive levels in a row, 0 to 10.
+    /// Bus integration: the number of recessive levels in a row, 0 to 10.
     Joining(u8),
     Idle,
-    /// So many unstuffed levels of a frame, its start of frame among them.
+    /// The number of unstuffed levels of the frame, with its start of frame.
     Stuffed(usize),
     CrcDelimiter,
     AckSlot,
@@ -23,23 +23,23 @@ pub enum PhaseName {
     EndOfFrame(u8),
     /// An active error flag, 0 to 5.
     ActiveFlag(u8),
-    /// A passive error flag: the last so many levels are equal, 0 to 5.
+    /// A passive error flag: the last n levels are equal, 0 to 5.
     PassiveFlag(u8),
     /// 0 to 5.
     OverloadFlag(u8),
-    /// Behind a flag, so many dominant levels, modulo eight.
+    /// After a flag: the number of dominant levels, modulo eight.
     BehindFlag(u8),
-    /// The delimiter behind a flag, 1 to 7.
+    /// The delimiter after a flag, 1 to 7.
     Delimiter(u8),
     /// 0 to 2.
     Intermission(u8),
     /// 0 to 7.
     Suspend(u8),
-    /// So many rows of eleven recessive levels, 0 to 127.
+    /// The number of sequences of eleven recessive levels, 0 to 127.
     BusOff(u8),
 }
 
-/// What the reference is to the frame on the bus.
+/// The role of the reference in the frame on the bus: transmitter or receiver.
 #[derive(Clone, Copy, Debug, PartialEq, Eq)]
 pub enum Part {
     Receiver,
@@ -69,24 +69,24 @@ pub enum Rule {
     OwnOverloadFrames,
 }
 
-/// Where the reference stands before a bit time.
+/// The state of the reference before a bit time.
 #[derive(Clone, Copy, Debug)]
 pub struct Standing {
     pub phase: PhaseName,
     pub part: Part,
     pub rule: Rule,
-    /// Its last event before, if there was one.
+    /// Its last event before that bit time, if there was one.
     pub since: Option<Timed<Event>>,
 }
 
-/// The name of the phase in which a controller is.
+/// The name of a controller's phase.
 pub(crate) fn phase_name<B: FrameBits>(access: &MediumAccess<B>) -> PhaseName
     ensures { result ≡ phase_name_of access.now }
 {
     phase_named(access.phase(), access.confine().occurrences())
 }
 
-/// The name of a phase, where so many rows of eleven recessive levels have come off the bus.
+/// The name of a phase; during bus-off, `rows` sequences of eleven recessive levels have passed.
 fn phase_named<B: FrameBits>(phase: &Phase<Front<B>>, rows: u8) -> PhaseName
     ensures { result ≡ phase_named_of phase.now rows }
 {
@@ -109,7 +109,7 @@ fn phase_named<B: FrameBits>(phase: &Phase<Front<B>>, rows: u8) -> PhaseName
     }
 }
 
-/// What a controller is to the frame on the bus.
+/// The role of a controller in the frame on the bus.
 pub(crate) fn part_in(role: &Role) -> Part
     ensures { result ≡ part_of role.now }
 {
@@ -119,7 +119,7 @@ pub(crate) fn part_in(role: &Role) -> Part
     }
 }
 
-/// The rule that decides in a phase, for a controller with this role.
+/// Returns the rule that decides in a phase, for a controller with this role.
 pub fn phase_rule<B: FrameBits>(phase: &Phase<Front<B>>, role: &Role) -> Rule
     ensures { result ≡ phase_rule_of phase.now role.now }
 {
@@ -141,8 +141,8 @@ pub fn phase_rule<B: FrameBits>(phase: &Phase<Front<B>>, role: &Role) -> Rule
     }
 }
 
-/// The rule in the stuffed part of a frame: at a stuff place and for a receiver that of stuff places; for a
-/// sender up to its RTR bit arbitration, and behind it the frame that it keeps.
+/// The rule between start of frame and CRC sequence. For a receiver, and at a stuff bit, it is that of stuff places.
+/// For a transmitter it is arbitration up to and including its RTR bit, and after that the frame that it keeps.
 fn stuffed_rule<B: FrameBits>(front: &Front<B>, role: &Role) -> Rule
     ensures { result ≡ stuffed_rule_of front.now role.now }
 {
@@ -156,7 +156,7 @@ fn stuffed_rule<B: FrameBits>(front: &Front<B>, role: &Role) -> Rule
     }
 }
 
-/// The rule by which an error flag starts behind a bit time in this phase.
+/// The rule by which an error in this phase starts an error flag.
 fn error_rule(phase: PhaseName, kind: ErrorKind) -> Rule
     ensures { result ≡ error_rule_of phase kind }
 {
@@ -180,7 +180,7 @@ fn error_rule(phase: PhaseName, kind: ErrorKind) -> Rule
     }
 }
 
-/// The rule by which an overload flag starts behind a bit time in this phase with this level.
+/// The rule by which this level in this phase starts an overload flag.
 fn overload_rule(phase: PhaseName, seen: Level) -> Rule
     ensures { result ≡ overload_rule_of phase seen }
 {
@@ -195,8 +195,8 @@ fn overload_rule(phase: PhaseName, seen: Level) -> Rule
     }
 }
 
-/// The rule for the next bit time of a controller that had this event: for the first level of a flag the rule
-/// that started it. It was in this phase before, and saw this level.
+/// The rule for the next bit time of a controller that had this event: for the first level of a flag, the rule that
+/// started it. The controller was in this phase before, and saw this level.
 pub(crate) fn rule_behind<B: FrameBits>(
     event: &Option<Event>,
     phase: PhaseName,

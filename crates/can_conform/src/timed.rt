@@ -1,4 +1,4 @@
-/// Something with the bit time at which it comes, counted from 0.
+/// Something with its bit time, counted from 0.
 #[derive(Clone, Copy, Debug)]
 pub struct Timed<T> {
     pub time: u32,

@@ -24,28 +24,28 @@ impl Counters {
     };
 }
 
-/// What a controller has come to behind the last bit time.
+/// The state and the counters of a controller after the last bit time.
 #[derive(Clone, Copy, Debug, PartialEq, Eq)]
 pub struct Ending {
     pub state: State,
     pub counters: Counters,
 }
 
-/// What a controller did in a case. What is left out is not judged.
+/// What a controller did in a case. Parts that are `None` are not judged.
 #[derive(Debug, Drop)]
 pub struct Transcript {
-    /// The levels that it drove, one a bit time.
+    /// The level that it drove in each bit time.
     pub drove: Vec<Level>,
-    /// The events that it told, by rising times.
+    /// The events that it reported, with strictly rising times.
     pub events: Option<Vec<Timed<Event>>>,
-    /// Its counters behind each bit time that changed one, by rising times.
+    /// Its counters after each bit time that changed one, with strictly rising times.
     pub counters: Option<Vec<Timed<Counters>>>,
     pub end: Option<Ending>,
 }
 
 impl Transcript {
-    /// Whether its times rise, and there are no more than 2^32 - 2 levels, and no time above that: what
-    /// [`judge`](crate::judge) asks for.
+    /// Returns whether the times rise strictly, and the times and the number of levels are below 2^32 - 1.
+    /// [`judge`](crate::judge) requires this.
     pub fn is_told(&self) -> bool
         ensures { IsTrue result ↔ IsTold self.now }
     {
@@ -53,7 +53,7 @@ impl Transcript {
     }
 }
 
-/// Whether times rise, where they are told.
+/// Whether times rise, if the list is there.
 fn are_told<T>(list: &Option<Vec<Timed<T>>>) -> bool
     ensures rising { IsTrue result → IfSome list.now (λ list. AreRising list.items) }
     ensures end { IsTrue result → IfSome list.now (λ list. EndBefore list.items (2 ^ 32 - 1)) }
@@ -65,7 +65,7 @@ fn are_told<T>(list: &Option<Vec<Timed<T>>>) -> bool
     }
 }
 
-/// Whether times rise, none of them the highest number.
+/// Whether times rise strictly, each below 2^32 - 1.
 fn are_rising<T>(list: &[Timed<T>]) -> bool
     ensures rising { IsTrue result → AreRising list.now }
     ensures end { IsTrue result → EndBefore list.now (2 ^ 32 - 1) }

@@ -1,4 +1,4 @@
-//! Where the reference stands in a case, from bit time to bit time.
+//! The rule that decides in each bit time of a case, and the last event before it.
 ghost use Rattle.std.specs.Prelude.{◌≡◌, ◌+◌, None};
 ghost use Rattle.can_conform.specs.Runs.{before, last_event as last_event_of, moment_at, rule_before, since_before};
 ghost use Rattle.can_conform.specs.Standings.{part_of, phase_name as phase_name_of, phase_rule as phase_rule_of};
@@ -13,14 +13,14 @@ use can_code::FrameBits;
 use can_frame::Level;
 use can_mac::{Event, MediumAccess};
 
-/// A phase and a part in it: what a bit time changes, and a difference in it tells.
+/// A phase and the role in it. Verdicts have them as they are before the bit time.
 #[derive(Clone, Copy)]
 pub(crate) struct Place {
     phase: PhaseName,
     part: Part,
 }
 
-/// Where a controller is.
+/// The phase and the role of a controller.
 pub(crate) fn place_of<B: FrameBits>(access: &MediumAccess<B>) -> Place
     ensures phase { result.phase ≡ phase_name_of access.now }
     ensures part { result.part ≡ part_of access.now.role }
@@ -39,7 +39,7 @@ pub(crate) struct Watch {
 }
 
 impl Watch {
-    /// Before the first bit time of a controller with this medium access.
+    /// The watch before the first bit time of a controller with this medium access control.
     pub(crate) fn begin<B: FrameBits>(access: &MediumAccess<B>) -> Watch
         ensures rule { result.rule ≡ phase_rule_of access.now.phase access.now.role }
         ensures since { result.since ≡ None }
@@ -50,8 +50,8 @@ impl Watch {
         }
     }
 
-    /// Goes on behind a bit time of the case: the reference was at this place before, did this in it, and is as `next`
-    /// says behind it.
+    /// Follows a bit time of the case: the reference had this phase and role before, did `moment` in it, and is in
+    /// state `next` after it.
     pub(crate) fn follow<B: FrameBits>(
         &mut self,
         script: &Script,
@@ -76,7 +76,7 @@ impl Watch {
         note_event(&mut self.since, &moment.event, time);
     }
 
-    /// Where the reference stands that is at this place.
+    /// The state of the reference, given its phase and role.
     pub(crate) fn standing(&self, place: Place) -> Standing
         ensures phase { result.phase ≡ place.phase }
         ensures part { result.part ≡ place.part }
@@ -92,7 +92,7 @@ impl Watch {
     }
 }
 
-/// Keeps an event as the last one, if this is one.
+/// Keeps an event as the last one, if there is one.
 fn note_event(since: &mut Option<Timed<Event>>, event: &Option<Event>, time: u32)
     ensures { since.new ≡ last_event_of event.now time since.old }
 {

@@ -35,7 +35,7 @@ line_read before n (m ∷ ns) rest small others =
     ap (numbers_in before 0) (append_assoc (decimal n) (numbers_behind (m ∷ ns)) rest) ∙ decimal_read n small before (numbers_behind (m ∷ ns) ++ rest)
     ∙ line_read (before ++ n ∷ []) m ns rest others.0 others.1 ∙ ap (λ l. l ∷ numbers_in [] 0 rest) (append_assoc before (n ∷ []) (m ∷ ns))
 
--- lines that stand before other text
+-- lines that come before other text
 pub lines_before : (lines : List (List ℕ)) (rest : List ℕ) → AreLines lines → numbers_in [] 0 (flat_map line_text lines ++ rest) ≡ lines ++ numbers_in [] 0 rest
 lines_before [] rest are = refl
 lines_before ([] ∷ lines) rest are = absurd are.0

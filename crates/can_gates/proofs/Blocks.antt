@@ -1,7 +1,7 @@
 -- Texts that are read block by block.
 use Rattle.std.proofs.Common.{◌≡◌, ℕ, List, [], ◌++◌, refl, sym, ◌∙◌, ap, append_assoc, append-nil}
 
--- a text is read as these, and behind it reading goes on
+-- a text is read as these, and reading continues after it
 pub record Reads {Y : Type 0} (from to : List ℕ → List Y) (text : List ℕ) (read : List Y) : Type 0 where
   pub on : (rest : List ℕ) → from (text ++ rest) ≡ read ++ to rest
 
@@ -13,6 +13,6 @@ joined {Y} {from} {through} {to} {a} {b} {x} {y} first second = record {
   on = λ rest. ap from (append_assoc a b rest) ∙ first.on (b ++ rest) ∙ ap (λ t. x ++ t) (second.on rest) ∙ sym (append_assoc x y (to rest));
 }
 
--- where nothing is read of no text, a text that is read block by block is read
+-- if nothing is read from the empty text, a text that is read block by block is read
 pub whole : {Y : Type 0} (from to : List ℕ → List Y) (text : List ℕ) (read : List Y) → to [] ≡ [] → Reads from to text read → from text ≡ read
 whole from to text read ends reads = ap from (sym (append-nil text)) ∙ reads.on [] ∙ ap (λ t. read ++ t) ends ∙ append-nil read

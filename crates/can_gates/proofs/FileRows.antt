@@ -1,4 +1,4 @@
--- The definitions computed on bytes that were worked out by hand.
+-- Hand-computed test vectors: the definitions computed on bytes.
 use Rattle.std.proofs.Common.{◌≡◌, ℕ, true, false, List, [], ◌∷◌, ◌++◌, codes, refl}
 use Rattle.can_gates.specs.declared.literal.Literal.{Literal}
 use Rattle.can_gates.specs.declared.circuit.Gate.{Gate}
@@ -32,7 +32,7 @@ toggle_read = refl
 two_lines : words_by_line [] [] (codes "a <= b;\nend\n") ≡ (codes "a" ∷ codes "<=" ∷ codes "b" ∷ []) ∷ (codes "end" ∷ []) ∷ []
 two_lines = refl
 
--- a module by the words of its lines: of a port two are told, turned and plain
+-- a module by the words of its lines: it has two ports, turned and plain
 toggle_module : lines_said false
     ((codes "//" ∷ codes "Toggle" ∷ []) ∷ (codes "module" ∷ codes "toggle(clock," ∷ codes "on," ∷ codes "told)" ∷ []) ∷ (codes "input" ∷ codes "on" ∷ codes "//" ∷ codes "changes" ∷ []) ∷ (codes "output" ∷ codes "[1:0]" ∷ codes "told" ∷ codes "//" ∷ codes "two" ∷ [])
     ∷ (codes "wire" ∷ codes "n3" ∷ codes "=" ∷ codes "~n2" ∷ codes "&" ∷ codes "n1" ∷ []) ∷ (codes "assign" ∷ codes "told[0]" ∷ codes "=" ∷ codes "~n2" ∷ []) ∷ (codes "always" ∷ codes "begin" ∷ [])
@@ -41,7 +41,7 @@ toggle_module : lines_said false
     ∷ Says (And (record { signal = 3; left = turned 2; right = plain 1 })) ∷ Says (Assign (codes "told[0]") (turned 2)) ∷ Steps (codes "begin" ∷ []) ∷ Says (Take (codes "held") (turned 5)) ∷ End ∷ EndModule ∷ []
 toggle_module = refl
 
--- signal 1 comes in, and nothing else is there
+-- signal 1 is an input, and there is nothing else
 ascii_file : read_ascii (codes "aag 1 1 0 0 0\n2\nc\n") ≡ record { numbers = (1 ∷ 1 ∷ 0 ∷ 0 ∷ 0 ∷ []) ∷ (2 ∷ []) ∷ []; names = (codes "c" ∷ []) ∷ [] }
 ascii_file = refl
 

@@ -23,7 +23,7 @@ use Rattle.can_gates.proofs.Groups.{AreNumbered, bit-small, gates_read, numbered
 use Rattle.can_gates.proofs.Proper.{lines_apart, registers_are}
 use Rattle.can_gates.proofs.NamesRead.{names_read}
 
--- ---- lines of numbers, and what is behind them
+-- ---- lines of numbers, and what follows them
 
 name_passed : (n : ℕ) (name rest : List ℕ) → IsName name → behind_lines (suc n) (name ++ rest) ≡ behind_lines (suc n) rest
 name_passed n [] rest is = refl

@@ -11,7 +11,7 @@ use Rattle.can_gates.specs.Aiger.{literal_code}
 use Rattle.can_gates.specs.Ordered.{IsOrdered}
 use Rattle.can_gates.specs.Binary.{groups, gate_bytes, number_in, literal_of, gates_in}
 
--- the numbers that fit into a group and so many more
+-- the numbers that fit into one group and n more
 abbrev room : ℕ → ℕ
 room zero = 128
 room (suc more) = 128 * room more
@@ -49,7 +49,7 @@ bit-small false = omega arith
 abbrev gate_with : ℕ → ℕ → ℕ → Gate
 gate_with s first second = record { signal = s; left = literal_of (2 * s - first); right = literal_of (2 * s - first - second) }
 
--- where a number stands and then another, they are a gate
+-- if a number is read and then another, they are a gate
 pair_read : (n s first second : ℕ) (bytes more rest : List ℕ) → number_in bytes ≡ (first, more) → number_in more ≡ (second, rest) → gates_in (suc n) s bytes ≡ gate_with s first second ∷ gates_in n (s + 1) rest
 pair_read n s first second bytes more rest is behind = rw (is, behind) refl
 
@@ -78,7 +78,7 @@ gates_read s (g ∷ gates) behind are =
     ap (gates_in (length (g ∷ gates)) g.signal) (append_assoc (gate_bytes g) more behind) ∙ gate_read (length gates) g (more ++ behind) are.1 are.2 are.3 in
     subst (λ k. gates_in (length (g ∷ gates)) k (flat_map gate_bytes (g ∷ gates) ++ behind) ≡ g ∷ gates_in (length gates) (k + 1) (more ++ behind)) are.0 whole ∙ ap (λ l. g ∷ l) (gates_read (s + 1) gates behind are.4)
 
--- one more behind them
+-- one more after them
 numbered_more : (s : ℕ) (gates : List Gate) (g : Gate) → AreNumbered s gates → g.signal ≡ s + length gates → g.left.signal < g.signal → literal_code g.right ≤ literal_code g.left → g.signal < 2 ^ 32 → AreNumbered s (gates ++ g ∷ [])
 numbered_more s [] g are is lower order fits = (omega (arith, is), lower, order, fits, tt)
 numbered_more s (h ∷ gates) g are is lower order fits = (are.0, are.1, are.2, are.3, numbered_more (s + 1) gates g are.4 (omega (arith, is)) lower order fits)
@@ -101,7 +101,7 @@ circuit_read c behind ordered fits =
 
 -- ---- what is written
 
--- where more than seven bits are left, the lowest seven are a group
+-- if more than seven bits are left, the lowest seven are a group
 pub group_more : (more n : ℕ) → 0 < more → 128 ≤ n → groups more n ≡ (128 + n % 128) ∷ groups (more - 1) (n / 128)
 group_more zero n some many = absurd (omega (arith, some))
 group_more (suc more) n some many = let e : suc more - 1 ≡ more = omega arith in rw (le-ltb n 128 many, e) refl

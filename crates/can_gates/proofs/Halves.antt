@@ -1,4 +1,4 @@
--- The literal at the place that a number tells, in two parts of a list.
+-- The literal at an index that is a number, in two parts of a list.
 use Rattle.std.proofs.Common.{◌≡◌, ℕ, suc, ◌+◌, ◌*◌, ◌^◌, ◌<◌, ◌≤◌, ◌⊎◌, inl, inr, min, Bool, true, false, cond, List, length, take, drop, get_or, sym, ◌∙◌, ap, arith}
 use Rattle.std.proofs.lemmas.Bool.{cases_lt}
 use Rattle.std.proofs.lemmas.List.{get_or_past, get_or-take, get_or-drop, take_all, length-take-le}
@@ -11,7 +11,7 @@ use Rattle.can_gates.proofs.WordNumbers.{number-take, number-take-lt}
 abbrev pub value_at : (ℕ → Bool) → List Literal → ℕ → Bool
 value_at v items k = value v (get_or items k never)
 
--- the first half places, p of them if there are so many
+-- the first part of the items, at most p of them
 low_part : (v : ℕ → Bool) (items : List Literal) (n half p : ℕ) → n < p → half ≡ min p (length items) → value_at v (take half items) n ≡ value_at v items n
 low_part v items n half p small is = by (cases_lt n half)
   where
@@ -20,7 +20,7 @@ low_part v items n half p small is = by (cases_lt n half)
     by (inr h) =
         let long = length-take-le half items (omega (arith, is)) in ap (value v) (get_or_past (take half items) n never (omega (arith, h, long)) ∙ sym (get_or_past items n never (omega (arith, h, is, small))))
 
--- and those behind them
+-- and those after them
 high_part : (v : ℕ → Bool) (items : List Literal) (n half p : ℕ) → half ≡ min p (length items) → value_at v (drop half items) n ≡ value_at v items (n + p)
 high_part v items n half p is = ap (value v) (get_or-drop half items n never) ∙ by (cases_lt (length items) p)
   where

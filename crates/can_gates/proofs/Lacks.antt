@@ -16,7 +16,7 @@ by_room None unknown false has = inr (rw has refl)
 pub known_lack : (c : CircuitParts) (signal : ℕ) → signal ≤ c.highest → (lack_with c signal ≡ c.lack) ⊎ (lack_with c signal ≡ Some Room)
 known_lack c signal has = by_room c.lack (nat_lt c.highest signal) (nat_lt (length c.gates) c.room) (le-ltb c.highest signal has)
 
--- the lack that was, or that for want of room, over two calls
+-- the lack that was, or that of capacity, over two calls
 pub lack_then : (first second third : Option Lack) → (second ≡ first) ⊎ (second ≡ Some Room) → (third ≡ second) ⊎ (third ≡ Some Room) → (third ≡ first) ⊎ (third ≡ Some Room)
 lack_then first second third before (inr full) = inr full
 lack_then first second third (inl before) (inl same) = inl (same ∙ before)
@@ -64,7 +64,7 @@ has_drop c zero l has = has
 has_drop c (suc n) [] has = tt
 has_drop c (suc n) (x ∷ l) has = has_drop c n l has.1
 
--- ---- one call behind another
+-- ---- one call after another
 
 pub serves_none : (c : CircuitParts) (given made : List Literal) → (HasSignals c given → HasSignals c made) → Serves c c given made
 serves_none c given made has = λ h. (omega arith, has h, inl refl)

@@ -39,7 +39,7 @@ last_left : (a b : List ℕ) → take (length (a ++ b) - length b) (a ++ b) ≡ 
 last_left [] b = let none : length b - length b ≡ 0 = omega arith in rw none refl
 last_left (c ∷ a) b = let one : suc (length (a ++ b)) - length b ≡ suc (length (a ++ b) - length b) = omega (arith, length-append a b) in rw one (ap (λ l. c ∷ l) (last_left a b))
 
--- the words of ports, behind this beginning of one
+-- the words of ports, after this beginning of one
 abbrev port_words : List ℕ → List Word → List (List ℕ)
 port_words word [] = (word ++ codes ")") ∷ []
 port_words word (w ∷ ports) = (word ++ codes ",") ∷ port_words w.name.now ports
@@ -239,7 +239,7 @@ ends_read = record { on = λ rest. ap (λ t. among (t ++ rest)) ends_parts ∙ a
 
 -- ---- the whole
 
--- the title with all ports, and behind it the parts of the text one by one
+-- the title with all ports, and after it the parts of the text one by one
 regrouped : (title inputs outputs end clock taken given held zero statements : List ℕ)
     → (title ++ (inputs ++ (outputs ++ ((end ++ clock) ++ (taken ++ (given ++ (held ++ zero))))))) ++ statements ≡ (title ++ ((inputs ++ outputs) ++ end)) ++ (clock ++ (taken ++ (given ++ (held ++ (zero ++ statements)))))
 regrouped title inputs outputs end clock taken given held zero statements = simp (append_assoc)

@@ -20,15 +20,16 @@ written old mid new a b first then = λ complete.
     let behind = then complete in
     let before = first behind.0 in (before.0, joined old.bytes.items mid.bytes.items new.bytes.items a b before.1 behind.1)
 
--- in a loop: where the text is complete by now, it was at first, and with the rest it is what it was with all pieces
+-- in a loop: if the text is complete after some pieces, it was complete at first, and with the rest it is the text with
+-- all pieces
 abbrev pub LeavesOf : List ℕ → List ℕ → Text → Text → Type 0
 LeavesOf rest all old now = now.complete ≡ true → (old.complete ≡ true) × (now.bytes.items ++ rest ≡ old.bytes.items ++ all)
 
--- a literal's name behind those before it
+-- a literal's name after the previous ones
 pub one_more : (w : Word) (n : ℕ) (old mid new : List Bit) → mid ≡ old ++ numbered w n → new ≡ mid ++ record { name = w.name; place = Some n } ∷ [] → new ≡ old ++ numbered w (n + 1)
 one_more w n old mid new e1 e2 = rw (add-one n) (joined _ _ _ _ _ e1 e2)
 
--- the wires of names, and of others behind these
+-- the wires of names, and of others after these
 wires_more : (s : ℕ) (a b : List Bit) → wires s (a ++ b) ≡ wires s a ++ wires (s + length a) b
 wires_more s [] b = let all : s ≡ s + 0 = omega arith in ap (λ n. wires n b) all
 wires_more s (bit ∷ a) b =
@@ -37,7 +38,7 @@ wires_more s (bit ∷ a) b =
 wires_in_two : (s : ℕ) (a b : List Bit) → flat_map statement_text (wires s (a ++ b)) ≡ flat_map statement_text (wires s a) ++ flat_map statement_text (wires (s + length a) b)
 wires_in_two s a b = ap (flat_map statement_text) (wires_more s a b) ∙ flat_map-append statement_text (wires s a) (wires (s + length a) b)
 
--- the wires of inputs, and of registers behind so many
+-- the wires of inputs, and of registers after n of them
 pub both_written : (old mid new : Text) (a b inputs registers : List Bit) (n : ℕ) → a ≡ inputs → b ≡ registers → n ≡ length inputs
     → Writes old mid (flat_map statement_text (wires 1 a)) → Writes mid new (flat_map statement_text (wires (1 + n) b)) → Writes old new (flat_map statement_text (wires 1 (inputs ++ registers)))
 both_written old mid new a b inputs registers n ea eb en first then =

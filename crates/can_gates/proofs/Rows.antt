@@ -1,5 +1,5 @@
--- The definitions computed on a half adder that was worked out by hand: its inputs are signals 1 and 2, signal 3 is its carry, and
--- its sum is where signal 6 is false.
+-- Hand-computed test vectors of the definitions, for a half adder: its inputs are signals 1 and 2, signal 3 is its carry, and its sum is the negation
+-- of signal 6.
 use Rattle.std.proofs.Common.{◌≡◌, ℕ, Bool, true, false, not, cond, eqb, List, [], ◌∷◌, Some, None, codes, refl}
 use Rattle.std.proofs.lemmas.Bool.{true≢false}
 use Rattle.can_gates.specs.declared.literal.Literal.{Literal}
@@ -65,11 +65,12 @@ number_of_constants : number (inputs true true) (turned 0 ∷ plain 0 ∷ []) �
 unfolding value
 number_of_constants = refl
 
--- the half adder in a circuit with room for so many gates
+-- the half adder in a circuit with a capacity of n gates
 abbrev in_room : ℕ → CircuitParts
 in_room room = record { inputs = 2; room = room; highest = 6; gates = half_adder; lack = None }
 
--- its four gates fill a room of four; in a larger one a gate of its signals has its place, and one of signal 7 has not
+-- its four gates fill a capacity of four; in a larger one there is space for a gate of its signals, and none of signal
+-- 7
 full_of_four : lack_with (in_room 4) 6 ≡ Some Room
 full_of_four = refl
 

@@ -1,4 +1,4 @@
--- Lines whose numbers are below 2^64, and each of which has one.
+-- Lines with at least one number, and only numbers below 2^64.
 use Rattle.std.specs.Prelude.{ℕ, ◌^◌, ◌<◌, List, [], ◌∷◌}
 
 abbrev pub AreSmall : List ℕ → Type 0

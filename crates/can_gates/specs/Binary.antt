@@ -1,5 +1,5 @@
--- AIGER's binary format: inputs have no lines, and of a gate there are two differences, between its own number and that of its
--- left side, and between those of its sides, as numbers in groups of seven bits.
+-- AIGER's binary format: inputs have no lines. A gate has two differences, between its own number and that of its left side, and between the numbers
+-- of its sides, each in groups of seven bits.
 use Rattle.std.specs.Prelude.{ℕ, zero, suc, ◌+◌, ◌-◌, ◌*◌, ◌/◌, ◌%◌, ◌==◌, nat_lt, if◌then◌else◌, List, [], ◌∷◌, ◌++◌, map, reverse, codes}
 use Rattle.std.specs.List.{flat_map}
 use Rattle.can_gates.specs.declared.literal.Literal.{Literal}
@@ -11,18 +11,20 @@ use Rattle.can_gates.specs.Aiger.{header, literal_code, line_text, output_number
 use Rattle.can_gates.specs.declared.files.words.Names.{Names}
 use Rattle.can_gates.specs.Named.{names_text}
 
--- what a register takes, and what it holds at first
+-- the next value and the initial value of a register
 abbrev pub register_numbers : Register → List ℕ
 register_numbers r = literal_code r.next ∷ bit r.starts ∷ []
 
--- a number in groups of seven bits, the lowest first, with so many more at most: 128 is added where another group follows
+-- a number in groups of seven bits, the lowest first, with at most n groups after the first: 128 is added if another group follows
 abbrev pub groups : ℕ → ℕ → List ℕ
 groups zero n = n % 128 ∷ []
 groups (suc more) n = if nat_lt n 128 then n % 128 ∷ [] else (128 + n % 128) ∷ groups more (n / 128)
 
+-- the two differences of a gate
 abbrev pub gate_bytes : Gate → List ℕ
 gate_bytes g = groups 9 (2 * g.signal - literal_code g.left) ++ groups 9 (literal_code g.left - literal_code g.right)
 
+-- the whole file
 abbrev pub binary_text : Names → CircuitParts → List Register → List Literal → List ℕ
 binary_text n c registers outputs =
     codes "aig " ++ (line_text (header c registers outputs)
@@ -30,15 +32,16 @@ binary_text n c registers outputs =
 
 -- ---- a reader of gates
 
--- the number with which bytes begin, and what is behind it
+-- the number with which bytes begin, and the bytes after it
 abbrev pub number_in : List ℕ → ℕ × List ℕ
 number_in [] = (0, [])
 number_in (c ∷ bytes) = if nat_lt c 128 then (c, bytes) else ((c - 128) + 128 * (number_in bytes).0, (number_in bytes).1)
 
+-- the literal with this number
 abbrev pub literal_of : ℕ → Literal
 literal_of n = record { signal = n / 2; negated = n % 2 == 1 }
 
--- so many gates, of the signals from this one on
+-- n gates, of the signals from s on
 abbrev pub gates_in : ℕ → ℕ → List ℕ → List Gate
 gates_in zero s bytes = []
 gates_in (suc n) s bytes =

@@ -1,5 +1,4 @@
--- What is always true of a circuit's own fields: its gates are in order, and it has memory and numbers for all the gates that
--- it has room for.
+-- The invariant of a circuit's own fields: its gates are in order, and there are memory and signal numbers for its whole capacity.
 use Rattle.std.specs.Prelude.{ℕ, ◌≡◌, ◌+◌, ◌<◌, ◌≤◌, ◌^◌, List, length, reverse, Option, Some}
 use Rattle.can_gates.specs.declared.circuit.Gate.{Gate}
 use Rattle.can_gates.specs.declared.lack.Lack.{Lack}

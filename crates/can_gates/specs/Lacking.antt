@@ -1,4 +1,4 @@
--- Why a circuit lacks a gate: it is full, or it was given a signal that it doesn't have.
+-- Why a circuit lacks a gate: it is full, or it was given a signal that it does not have.
 use Rattle.std.specs.Prelude.{ℕ, ◌≡◌, ◌≤◌, ◌⊎◌, nat_lt, if◌then◌else◌, List, [], ◌∷◌, length, Option, Some, None, is_some}
 use Rattle.can_gates.specs.declared.literal.Literal.{Literal}
 use Rattle.can_gates.specs.declared.lack.Lack.{Lack}
@@ -7,7 +7,7 @@ use Rattle.can_gates.specs.declared.lack.CircuitFault.{CircuitFault}
 use Rattle.can_gates.specs.declared.lack.CircuitFault.TheVariants.{Memory, Incomplete}
 use Rattle.can_gates.specs.Circuit.{CircuitParts}
 
--- why a circuit can't have one gate more, if it can't: this is the higher one of the signals of the gate's sides
+-- why a circuit cannot have one more gate, if so: `signal` is the higher of the signals of the gate's sides
 abbrev pub lack_with : CircuitParts → ℕ → Option Lack
 lack_with c signal =
     if is_some c.lack then c.lack
@@ -19,13 +19,13 @@ abbrev pub HasSignals : CircuitParts → List Literal → Type 0
 HasSignals c [] = Unit {0}
 HasSignals c (l ∷ literals) = (l.signal ≤ c.highest) × HasSignals c literals
 
--- a circuit that has the signals of the literals that a call is given has those of the literals that the call makes. If it was
--- complete and isn't any more, it is full
+-- if the circuit has the signals of the literals given to a call, it has those of the literals that the call makes; and if it was complete and is no
+-- longer, it is full
 abbrev pub Serves : CircuitParts → CircuitParts → List Literal → List Literal → Type 0
 Serves old new given made =
     HasSignals old given → (old.highest ≤ new.highest) × HasSignals new made × ((new.lack ≡ old.lack) ⊎ (new.lack ≡ Some Room))
 
--- why a circuit isn't handed out: it lacks a gate, or it is complete and memory was refused
+-- why a circuit is not returned: it lacks a gate, or it is complete and an allocation failed
 abbrev pub fault_of : Option Lack → CircuitFault
 fault_of None = Memory
 fault_of (Some lack) = Incomplete lack

@@ -1,15 +1,14 @@
--- The names of a circuit's literals: a word is a name of literals that stand side by side, and told[2] is the third of those
--- that have the name told.
+-- The names of a circuit's literals: a word is a name of several literals; `told[2]` is the third of those with the name `told`.
 use Rattle.std.specs.Prelude.{ℕ, zero, suc, ◌==◌, if◌then◌else◌, List, [], ◌∷◌, ◌++◌, Option, Some, None, codes, decimal}
 use Rattle.can_gates.specs.declared.files.words.Word.{Word}
 use Rattle.can_gates.specs.declared.files.words.Bit.{Bit}
 
--- the first n places of a word
+-- the names of the first n bits of a word
 abbrev pub numbered : Word → ℕ → List Bit
 numbered w zero = []
 numbered w (suc n) = numbered w n ++ record { name = w.name; place = Some n } ∷ []
 
--- those of a whole word: one that is alone has no place behind its name
+-- those of a whole word: a single bit has no index after its name
 abbrev pub bits_of_word : Word → List Bit
 bits_of_word w = if w.places == 1 then record { name = w.name; place = None } ∷ [] else numbered w w.places
 

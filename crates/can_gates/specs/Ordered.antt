@@ -3,8 +3,8 @@ use Rattle.std.specs.Prelude.{ℕ, ◌≡◌, ◌+◌, ◌<◌, ◌≤◌, List,
 use Rattle.can_gates.specs.declared.circuit.Gate.{Gate}
 use Rattle.can_gates.specs.Aiger.{literal_code}
 
--- behind the inputs, which are the first, each gate makes the next signal, of two earlier ones; the greater literal is its left
--- side. The last gate makes the highest signal
+-- after the inputs, which come first, each gate makes the next signal, of two earlier ones; the literal with the greater number is its left side. The
+-- last gate makes the highest signal
 abbrev pub IsOrdered : ℕ → ℕ → List Gate → Type 0
 IsOrdered inputs highest [] = highest ≡ inputs
 IsOrdered inputs highest (g ∷ gates) =

@@ -1,5 +1,5 @@
--- Names that are read back: no name has a newline, a blank or a semicolon, that of a word begins with no bracket, and what they
--- mean stands in one line.
+-- Names that can be recovered: no name has a newline, a space or a semicolon, that of a word does not begin with a bracket, and each meaning is one
+-- line.
 use Rattle.std.specs.Prelude.{ℕ, ◌≡◌, ◌==◌, ◌+◌, ◌<◌, ◌^◌, Bool, false, List, [], ◌∷◌, length}
 use Rattle.std.specs.List.{flat_map, AllByRecursion}
 use Rattle.can_gates.specs.declared.files.words.Word.{Word}
@@ -7,11 +7,12 @@ use Rattle.can_gates.specs.declared.files.words.Names.{Names}
 use Rattle.can_gates.specs.Names.{bits_of_word}
 use Rattle.can_gates.specs.Statements.{IsOneLine, IsName}
 
--- whether it is a width, as [28:0], by its first byte
+-- a word begins as a range, such as [28:0]
 abbrev pub is_width : List ℕ → Bool
 is_width [] = false
 is_width (c ∷ word) = c == 91
 
+-- a word that can be recovered: it has at least one bit, and fewer than 2^64
 pub record IsReadable (w : Word) : Type 0 where
   pub name : IsName w.name.now
   pub no_width : is_width w.name.now ≡ false
@@ -19,10 +20,11 @@ pub record IsReadable (w : Word) : Type 0 where
   pub some : 0 < w.places
   pub few : w.places < 2 ^ 64
 
--- how many literals have a name of these words
+-- how many literals these words have
 abbrev pub names_of : List Word → ℕ
 names_of words = length (flat_map bits_of_word words)
 
+-- the names of a file that can be recovered: they have fewer than 2^32 bits
 pub record AreReadable (n : Names) : Type 0 where
   pub circuit : IsName n.circuit.now
   pub meaning : IsOneLine n.meaning.now

@@ -1,4 +1,4 @@
--- The assignment that gates make of the values of the inputs. The last gate goes first.
+-- The assignment that gates make from the values of the inputs. The list has the last gate first.
 use Rattle.std.specs.Prelude.{ℕ, ◌==◌, Bool, ◌&&◌, if◌then◌else◌, List, [], ◌∷◌}
 use Rattle.can_gates.specs.declared.circuit.Gate.{Gate}
 use Rattle.can_gates.specs.Circuit.{value}

@@ -1,5 +1,5 @@
--- A circuit with registers and outputs as a module of Verilog-2001: its ports and registers as words, with their meaning in
--- comments, and its statements.
+-- A circuit with registers and outputs as a module of Verilog-2001: its ports and registers as words, with their meaning in comments, and its
+-- statements.
 use Rattle.std.specs.Prelude.{ℕ, ◌+◌, ◌-◌, ◌==◌, if◌then◌else◌, false, List, [], ◌∷◌, ◌++◌, map, reverse, slice_index_or, codes, decimal}
 use Rattle.std.specs.List.{flat_map}
 use Rattle.can_gates.specs.declared.literal.Literal.{Literal}
@@ -13,21 +13,21 @@ use Rattle.can_gates.specs.Statements.{Statement, Wire, And, Assign, Take, state
 
 -- ---- its statements
 
--- the signals from this one on have these names
+-- the wires of these names: the signals from s on
 abbrev pub wires : ℕ → List Bit → List Statement
 wires s [] = []
 wires s (b ∷ bits) = Wire s (bit_text b) ∷ wires (s + 1) bits
 
--- these names are assigned the outputs from this one on
+-- the assignments of these names: the outputs from index p on
 abbrev pub assigns : ℕ → List Bit → List Literal → List Statement
 assigns p [] outputs = []
 assigns p (b ∷ bits) outputs = Assign (bit_text b) (slice_index_or outputs p never) ∷ assigns (p + 1) bits outputs
 
--- what a register takes
+-- the next value of the register with index p
 abbrev pub next_of : List Register → ℕ → Literal
 next_of registers p = (slice_index_or registers p (record { next = never; starts = false })).next
 
--- these names take what the registers from this one on do
+-- the next values of these names: those of the registers from index p on
 abbrev pub takes : ℕ → List Bit → List Register → List Statement
 takes p [] registers = []
 takes p (b ∷ bits) registers = Take (bit_text b) (next_of registers p) ∷ takes (p + 1) bits registers
@@ -56,7 +56,7 @@ head_text n = title_text n ++ (flat_map port_text n.inputs.now ++ (flat_map port
 
 -- ---- the whole
 
--- what the registers of these names take with each step, and the end
+-- the next values of the registers with these names, and the end
 unfoldable pub steps_text : List Bit → List Register → List ℕ
 steps_text held registers = codes "always @(posedge clock) begin\n" ++ (flat_map statement_text (takes 0 held registers) ++ codes "end\nendmodule\n")
 

@@ -1,4 +1,4 @@
-//! Or, exclusive or, and a choice between two literals.
+//! OR, XOR, and a choice between two literals.
 ghost use Rattle.std.specs.Prelude.{◌≡◌, ◌&&◌, ◌||◌, ◌⊎◌, [], ◌∷◌, ℕ, Bool, max, if◌then◌else◌};
 ghost use Rattle.can_gates.specs.Circuit.{value, Makes, differ};
 ghost use Rattle.can_gates.specs.Lacking.{Serves, lack_with};
@@ -7,7 +7,7 @@ use crate::circuit::Circuit;
 use crate::literal::Literal;
 
 impl Circuit {
-    /// One of the two, or both.
+    /// Returns the OR of two literals.
     pub fn or(&mut self, a: Literal, b: Literal) -> Literal
         ensures made { Makes self.old self.new (λ v. value v result ≡ (value v a || value v b)) }
         ensures lack { (self.new.lack ≡ self.old.lack) ⊎ (self.new.lack ≡ lack_with self.old (max a.signal b.signal)) }
@@ -17,7 +17,7 @@ impl Circuit {
         neither.opposite()
     }
 
-    /// The one literal where the test holds, else the other one.
+    /// Returns the first literal if the test is true, otherwise the second.
     pub fn ite(&mut self, test: Literal, a: Literal, b: Literal) -> Literal
         ensures made { Makes self.old self.new (λ v. value v result ≡ (if value v test then value v a else value v b)) }
         ensures serves { Serves self.old self.new (test ∷ a ∷ b ∷ []) (result ∷ []) }
@@ -30,7 +30,7 @@ impl Circuit {
         self.or(first, second)
     }
 
-    /// One of the two, and not both.
+    /// Returns the XOR of two literals.
     pub fn xor(&mut self, a: Literal, b: Literal) -> Literal
         ensures made { Makes self.old self.new (λ v. value v result ≡ differ (value v a) (value v b)) }
         ensures serves { Serves self.old self.new (a ∷ b ∷ []) (result ∷ []) }

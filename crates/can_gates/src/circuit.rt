@@ -1,4 +1,4 @@
-//! Circuits, and the and of two literals.
+//! Circuits, and the AND of two literals.
 ghost use Rattle.std.specs.Prelude.{◌≡◌, ◌≤◌, ◌<◌, ◌-◌, ◌^◌, ◌&&◌, ◌⊎◌, [], ◌∷◌, ℕ, Bool, false, None, Some, IfOk, IfSome, is_none, length, min, max, reverse};
 ghost use Rattle.can_gates.specs.Aiger.{literal_code};
 ghost use Rattle.can_gates.specs.Circuit.{value, Keeps, Makes};
@@ -13,33 +13,33 @@ use crate::literal::{FALSE, Literal, folded};
 use std::alloc::{AllocError, Global};
 use std::marker::Model;
 
-/// A gate: its signal is the and of two literals.
+/// A gate: its signal is the AND of two literals.
 #[derive(Clone, Copy, Debug)]
 pub struct Gate {
-    /// The signal that it makes, the next one behind the inputs and the gates before it.
+    /// The signal that it makes: the next one after the inputs and the previous gates.
     pub signal: u32,
-    /// The side of the greater number, if a circuit made it.
+    /// If a circuit made it, the side with the greater number.
     pub left: Literal,
     /// The other side.
     pub right: Literal,
 }
 
-/// AND gates after inputs, with room for a number of gates. In clauses the last gate comes first.
+/// AND gates after inputs, with a capacity for gates. In contracts the last gate comes first.
 ///
-/// A gate isn't made if there is no [room](Lack::Room) for it, or if one of its sides is of a [signal](Lack::Signal) that the
-/// circuit doesn't have. Then the circuit isn't [complete](Circuit::is_complete) from then on: no assignment keeps it.
+/// A gate is not made if the circuit is [full](Lack::Room), or if one of its sides is of a [signal](Lack::Signal) that
+/// the circuit does not have. From then on the circuit is not [complete](Circuit::is_complete): no assignment keeps it.
 #[derive(Drop)]
 pub struct Circuit {
     gates: Vec<Gate>,
-    /// How many signals from 1 on are inputs.
+    /// The number of inputs: signals 1 to `inputs`.
     inputs: u32,
-    /// For how many gates there are memory and numbers.
+    /// For how many gates there are memory and signal numbers.
     room: u32,
     /// The highest signal.
     highest: u32,
-    /// Where the gates of a left side stand.
+    /// The index of gates by their left side.
     chains: Chains,
-    /// Why it lacks a gate that was asked for, if it does.
+    /// Why it lacks a gate that a call asked for, if it does.
     lack: Option<Lack>,
 }
 
@@ -56,8 +56,8 @@ impl Model for Circuit {
 }
 
 impl Circuit {
-    /// A circuit with no gate. Its inputs are the first signals, from 1 on. It has room for this number of gates, or for as many
-    /// as there are numbers left, of 2^32. Only this call takes memory.
+    /// Returns a circuit without gates, whose inputs are signals 1 to `inputs`. Its capacity is `room` gates, but at
+    /// most 2^32 - 1 - `inputs`: signal numbers are below 2^32. Only this call allocates memory.
     pub fn new(alloc: Global, inputs: u32, room: u32) -> Result<Circuit, AllocError>
         ensures { IfOk result (λ c. c ≡ record { inputs = inputs; room = min room (4294967295 - inputs); highest = inputs; gates = []; lack = None }) }
     {
@@ -72,35 +72,36 @@ impl Circuit {
         })
     }
 
-    /// The gates, each behind those that make its sides.
+    /// Returns the gates, each after the gates of its sides.
     pub fn gates(&self) -> &[Gate]
         ensures { result.now ≡ reverse self.now.gates }
     {
         self.gates.as_slice()
     }
 
-    /// How many inputs there are.
+    /// Returns the number of inputs.
     pub fn inputs(&self) -> u32
         ensures { result ≡ self.now.inputs }
     {
         self.inputs
     }
 
-    /// The highest signal, of a gate or of an input.
+    /// Returns the highest signal, of a gate or of an input.
     pub fn highest(&self) -> u32
         ensures { result ≡ self.now.highest }
     {
         self.highest
     }
 
-    /// For how many gates it has room, counting those that it has.
+    /// Returns the capacity: for how many gates there is space, with those that it has.
     pub fn room(&self) -> u32
         ensures { result ≡ self.now.room }
     {
         self.room
     }
 
-    /// Why it lacks a gate that was asked for, if it does: it is full, or it was given a signal that it doesn't have.
+    /// Returns why it lacks a gate that a call asked for, if it does: it is full, or it was given a signal that it does
+    /// not have.
     pub fn lack(&self) -> Option<Lack>
         ensures lack { result ≡ self.now.lack }
         ensures full { result ≡ Some Room → length self.now.gates ≡ self.now.room }
@@ -108,16 +109,16 @@ impl Circuit {
         self.lack
     }
 
-    /// Whether it has each gate that was asked for. What is made of one that lacks a gate is to be thrown away.
+    /// Returns whether it has each gate that calls asked for. If not, whatever was made of it is to be discarded.
     pub fn is_complete(&self) -> bool
         ensures { result ≡ is_none self.now.lack }
     {
         self.lack.is_none()
     }
 
-    /// Whatever values its inputs have, the run of a complete circuit is an assignment that keeps it and in which they have
-    /// these values: so nothing that is said of kept circuits is empty. And what keeps it is the run of its own values. It
-    /// does nothing.
+    /// For any input values, the run of a complete circuit is an assignment that keeps it. In this assignment the
+    /// inputs have these values. So statements about assignments that keep a circuit are never empty. Conversely, an
+    /// assignment that keeps the circuit is the run of its own values. A law: it does nothing.
     pub fn is_kept_by_its_run(&self)
         ensures keeps { (inputs : ℕ → Bool) → self.now.lack ≡ None → inputs 0 ≡ false → Keeps (run self.now.gates inputs) self.now }
         ensures inputs { (inputs : ℕ → Bool) (s : ℕ) → s ≤ self.now.inputs → run self.now.gates inputs s ≡ inputs s }
@@ -126,8 +127,8 @@ impl Circuit {
         let _gates = &self.gates;
     }
 
-    /// Its gates make the signals behind the inputs in their order, each of earlier signals, as AIGER's binary format has
-    /// them. It does nothing.
+    /// Its gates make the signals after the inputs in order, each of earlier signals, as in AIGER's binary format. A
+    /// law: it does nothing.
     pub fn is_in_order(&self)
         ensures order { IsOrdered self.now.inputs self.now.highest self.now.gates }
         ensures fits { self.now.highest < 2 ^ 32 }
@@ -136,9 +137,9 @@ impl Circuit {
         let _highest = self.highest;
     }
 
-    /// Both. It needs no gate where one is constant, where both are of one signal, or where there is a gate of these two.
-    /// Otherwise it makes one, unless the circuit is full or doesn't have one of the two signals: then the circuit isn't complete
-    /// from then on.
+    /// Returns the AND of two literals. No gate is needed if one literal is constant, if both are of the same signal,
+    /// or if the circuit has a gate of these two. Otherwise it makes one, unless the circuit is full or does not have
+    /// one of the two signals: then the circuit is incomplete from then on.
     pub fn and(&mut self, a: Literal, b: Literal) -> Literal
         ensures made { Makes self.old self.new (λ v. value v result ≡ (value v a && value v b)) }
         ensures lack { (self.new.lack ≡ self.old.lack) ⊎ (self.new.lack ≡ lack_with self.old (max a.signal b.signal)) }
@@ -154,7 +155,7 @@ impl Circuit {
         self.gate(sides)
     }
 
-    /// The signal of a gate of these sides, where there is one.
+    /// The signal of a gate with these sides, if there is one.
     fn shared(&self, sides: Sides) -> Option<Literal>
         ensures value { IfSome result (λ r. (v : ℕ → Bool) → Keeps v self.now → value v r ≡ (value v sides.left && value v sides.right)) }
         ensures signal { IfSome result (λ r. r.signal ≤ self.now.highest) }
@@ -169,7 +170,7 @@ impl Circuit {
         None
     }
 
-    /// The signal of the gate at this place, where it is of these sides.
+    /// The signal of the gate at this index, if it has these sides.
     fn made_at(&self, place: usize, sides: Sides) -> Option<Literal>
         ensures value { IfSome result (λ r. (v : ℕ → Bool) → Keeps v self.now → value v r ≡ (value v sides.left && value v sides.right)) }
         ensures signal { IfSome result (λ r. r.signal ≤ self.now.highest) }
@@ -184,7 +185,7 @@ impl Circuit {
         None
     }
 
-    /// A gate more, of these sides, or a circuit that lacks it.
+    /// Makes a gate with these sides; otherwise the circuit lacks it from then on.
     fn gate(&mut self, sides: Sides) -> Literal
         requires { literal_code sides.right ≤ literal_code sides.left }
         ensures made { Makes self.old self.new (λ v. value v result ≡ (value v sides.left && value v sides.right)) }
@@ -199,7 +200,7 @@ impl Circuit {
         self.added(sides)
     }
 
-    /// Why it can't have one gate more, if it can't. This is the higher one of the signals of the gate's sides.
+    /// Why it cannot have one more gate, if so. `signal` is the higher of the signals of the gate's sides.
     fn lack_of(&self, signal: u32) -> Option<Lack>
         ensures { result ≡ lack_with self.now signal }
     {
@@ -215,7 +216,7 @@ impl Circuit {
         None
     }
 
-    /// A gate more, of these sides.
+    /// Makes a gate with these sides.
     fn added(&mut self, sides: Sides) -> Literal
         requires order { literal_code sides.right ≤ literal_code sides.left }
         requires lack { lack_with self.old (max sides.left.signal sides.right.signal) ≡ None }
@@ -230,7 +231,7 @@ impl Circuit {
             left: sides.left,
             right: sides.right,
         };
-        // There is room, so that no memory is taken.
+        // There is capacity, so no memory is allocated.
         let _ = self.gates.push(gate);
         self.chains.add(sides.left.signal);
         self.highest = signal;
@@ -258,7 +259,7 @@ struct Sides {
 }
 
 impl Sides {
-    /// Two literals, of which that of the greater number goes first.
+    /// Two literals, the one with the greater number first.
     fn new(a: Literal, b: Literal) -> Sides
         ensures value { (v : ℕ → Bool) → (value v result.left && value v result.right) ≡ (value v a && value v b) }
         ensures order { literal_code result.right ≤ literal_code result.left }
@@ -271,7 +272,7 @@ impl Sides {
         }
     }
 
-    /// The higher one of the two signals.
+    /// The higher of the two signals.
     fn highest(self) -> u32
         ensures { result ≡ max self.left.signal self.right.signal }
     {

@@ -1,7 +1,7 @@
 //! Circuits as files: Verilog, and AIGER with names.
 //!
-//! A file has the names of what a circuit takes, holds and gives, [`Names`]: words, each a name of literals that stand side
-//! by side. Where a word has no literal left, [`crate::FALSE`] stands.
+//! A file has the names of a circuit's inputs, registers and outputs, [`Names`]. Each is a word: a vector of literals
+//! with one name. If a word has more bits than there are literals, the others are [`crate::FALSE`].
 
 mod aiger;
 mod lines;

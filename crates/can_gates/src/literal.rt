@@ -7,9 +7,9 @@ ghost use Rattle.can_gates.specs.Words.{bit};
 /// A signal, or its negation.
 #[derive(Clone, Copy, Debug)]
 pub struct Literal {
-    /// The signal's number. Signal 0 is false.
+    /// The number of the signal. Signal 0 is false.
     pub signal: u32,
-    /// Whether the literal is true where the signal is false.
+    /// Whether the literal is the negation of the signal.
     pub negated: bool,
 }
 
@@ -26,7 +26,7 @@ pub const TRUE: Literal = Literal {
 };
 
 impl Literal {
-    /// The literal that is true where this one is false.
+    /// Returns the negation of the literal.
     #[tactic(auto, unfolding(crate::specs::Circuit::value))]
     pub fn opposite(self) -> Literal
         ensures value { (v : ℕ → Bool) → value v result ≡ not (value v self) }
@@ -38,14 +38,14 @@ impl Literal {
         }
     }
 
-    /// Whether this is the other one too.
+    /// Whether this is the same literal.
     pub(crate) fn is_same(self, other: Literal) -> bool
         ensures { IsTrue result → (v : ℕ → Bool) → value v self ≡ value v other }
     {
         self.signal == other.signal && self.negated == other.negated
     }
 
-    /// The number that AIGER has for it: twice the signal's, and one more where it is negated.
+    /// Returns the number that AIGER has for it: twice the signal, plus 1 if it is negated.
     pub fn code(self) -> u64
         ensures { result ≡ literal_code self }
     {
@@ -60,7 +60,7 @@ pub(crate) fn bit_of(value: bool) -> u64
     if value { 1 } else { 0 }
 }
 
-/// What two literals are together where that needs no gate: one of them is constant, or both are of one signal.
+/// The AND of two literals, if that needs no gate: one of them is constant, or both are of the same signal.
 pub(crate) fn folded(a: Literal, b: Literal) -> Option<Literal>
     ensures value { IfSome result (λ r. (v : ℕ → Bool) → v 0 ≡ false → value v r ≡ (value v a && value v b)) }
     ensures signal { IfSome result (λ r. r.signal ≤ max a.signal b.signal) }
@@ -77,7 +77,7 @@ pub(crate) fn folded(a: Literal, b: Literal) -> Option<Literal>
     None
 }
 
-/// A constant and a literal together.
+/// The AND of a constant and a literal.
 fn with_constant(known: Literal, other: Literal) -> Literal
     requires { known.signal ≡ 0 }
     ensures value { (v : ℕ → Bool) → v 0 ≡ false → value v result ≡ (value v known && value v other) }
@@ -86,7 +86,7 @@ fn with_constant(known: Literal, other: Literal) -> Literal
     if known.negated { other } else { FALSE }
 }
 
-/// Two literals of one signal together.
+/// The AND of two literals of the same signal.
 fn of_one_signal(a: Literal, b: Literal) -> Literal
     requires { a.signal ≡ b.signal }
     ensures value { (v : ℕ → Bool) → v 0 ≡ false → value v result ≡ (value v a && value v b) }

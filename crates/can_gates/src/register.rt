@@ -1,11 +1,11 @@
 //! Registers.
 use crate::literal::Literal;
 
-/// A register. What it holds is an input of its circuit.
+/// A register (flip-flop). Its value is an input of its circuit.
 #[derive(Clone, Copy, Debug)]
 pub struct Register {
-    /// What it holds behind the next step.
+    /// Its value after the next step.
     pub next: Literal,
-    /// Whether it holds true at first.
+    /// Its initial value.
     pub starts: bool,
 }

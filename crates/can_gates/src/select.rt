@@ -1,4 +1,4 @@
-//! The literal at the place that a word tells.
+//! The literal at an index that is a word.
 ghost use Rattle.std.specs.Prelude.{◌≡◌, ◌≤◌, ◌^◌, ◌++◌, [], ◌∷◌, ℕ, Bool, min, slice_index_or};
 ghost use Rattle.can_gates.specs.Circuit.{value, Makes};
 ghost use Rattle.can_gates.specs.Lacking.{Serves};
@@ -8,7 +8,7 @@ use crate::circuit::Circuit;
 use crate::literal::{FALSE, Literal};
 
 impl Circuit {
-    /// The literal at the place that a number tells, never true past the end.
+    /// Returns the literal at an index that is a number; past the end it is never true.
     pub fn select(&mut self, items: &[Literal], place: &[Literal]) -> Literal
         ensures made { Makes self.old self.new (λ v. value v result ≡ value v (slice_index_or items.now (number v place.now) FALSE)) }
         ensures serves { Serves self.old self.new (items.now ++ place.now) (result ∷ []) }
@@ -28,10 +28,10 @@ impl Circuit {
     }
 }
 
-/// How many bits a length has.
+/// The number of bits of a length.
 const BITS: usize = 64;
 
-/// Two, so often multiplied, or a bound below that.
+/// 2 to the power of `times`, or `bound` if that is less.
 fn power_within(times: usize, bound: usize) -> usize
     ensures { result ≡ min (2 ^ times) bound }
 {

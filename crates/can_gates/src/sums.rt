@@ -9,8 +9,8 @@ use crate::literal::{FALSE, Literal};
 use crate::words::{complement, literal_at};
 
 impl Circuit {
-    /// The sum of a number, of the lowest places of another one, and of a place that is carried in, for which stands then what
-    /// is carried out of the highest place.
+    /// Returns the sum of `a`, the lowest N bits of `b`, and the carry. `carry` becomes the carry out of the highest
+    /// bit.
     pub fn add<const N: usize>(
         &mut self,
         a: &[Literal; N],
@@ -32,7 +32,7 @@ impl Circuit {
         word
     }
 
-    /// The word raised by the lowest places of a number, which stops at all ones.
+    /// Returns the sum of the word and the lowest N bits of `by`, saturated at 2^N - 1.
     pub fn raised<const N: usize>(&mut self, word: &[Literal; N], by: &[Literal]) -> [Literal; N]
         ensures places { length result ≡ N }
         ensures number { Makes self.old self.new (λ v. number v result ≡ min (number v word.now + number v (take N by.now)) (2 ^ N - 1)) }
@@ -43,7 +43,7 @@ impl Circuit {
         self.or_all(&sum, carry)
     }
 
-    /// The word lowered by the lowest places of a number, which stops at 0.
+    /// Returns the word minus the lowest N bits of `by`, saturated at 0.
     pub fn lowered<const N: usize>(&mut self, word: &[Literal; N], by: &[Literal]) -> [Literal; N]
         ensures places { length result ≡ N }
         ensures number { Makes self.old self.new (λ v. number v result ≡ number v word.now - number v (take N by.now)) }

@@ -1,4 +1,4 @@
-//! Numbers as words: literals, the lowest place first.
+//! Numbers as words: literals, the lowest bit first.
 ghost use Rattle.std.specs.Prelude.{◌≡◌, ◌++◌, ◌∷◌, ◌+◌, ◌*◌, ◌%◌, ◌-◌, ◌^◌, ℕ, Bool, false, if◌then◌else◌, length, slice_index_or};
 ghost use Rattle.can_gates.specs.Circuit.{CircuitParts, value, Makes};
 ghost use Rattle.can_gates.specs.Lacking.{HasSignals, Serves};
@@ -7,14 +7,14 @@ ghost use Rattle.can_gates.specs.Words.{number, bit};
 use crate::circuit::Circuit;
 use crate::literal::{FALSE, Literal, TRUE};
 
-/// The literal at a place of a word, [`FALSE`] past its end.
+/// Returns the literal at an index of a word, [`FALSE`] past its end.
 pub fn literal_at(word: &[Literal], place: usize) -> Literal
     ensures { result ≡ slice_index_or word.now place FALSE }
 {
     word.get(place).copied().unwrap_or(FALSE)
 }
 
-/// The lowest so many places of a number.
+/// Returns the lowest N bits of a number.
 pub fn constant<const N: usize>(of: u64) -> [Literal; N]
     ensures places { length result ≡ N }
     ensures number { (v : ℕ → Bool) → v 0 ≡ false → number v result ≡ of % 2 ^ N }
@@ -28,7 +28,7 @@ pub fn constant<const N: usize>(of: u64) -> [Literal; N]
     word
 }
 
-/// The lowest place of a number.
+/// The lowest bit of a number.
 #[tactic(auto, unfolding(crate::specs::Circuit::value))]
 fn lowest(of: u64) -> Literal
     ensures { (v : ℕ → Bool) → v 0 ≡ false → bit (value v result) ≡ of % 2 }
@@ -36,7 +36,7 @@ fn lowest(of: u64) -> Literal
     if of % 2 == 1 { TRUE } else { FALSE }
 }
 
-/// The opposite literal at each place: all ones less the number.
+/// The negation of each bit: 2^N - 1 minus the number.
 pub(crate) fn complement<const N: usize>(word: &[Literal; N]) -> [Literal; N]
     ensures places { length result ≡ N }
     ensures number { (v : ℕ → Bool) → v 0 ≡ false → number v result + number v word.now + 1 ≡ 2 ^ N }
@@ -50,7 +50,7 @@ pub(crate) fn complement<const N: usize>(word: &[Literal; N]) -> [Literal; N]
 }
 
 impl Circuit {
-    /// The one word where the test holds, else the other one.
+    /// Returns the first word if the test is true, otherwise the second.
     pub fn choose<const N: usize>(
         &mut self,
         test: Literal,
@@ -68,7 +68,7 @@ impl Circuit {
         all
     }
 
-    /// The word, or where it runs over all ones.
+    /// The word, or all ones if `over` is true.
     pub(crate) fn or_all<const N: usize>(
         &mut self,
         word: &[Literal; N],

@@ -1,4 +1,4 @@
--- The running check sequence, place by place: a level more, whether it agrees, and what a sender sends of it.
+-- The CRC register, bit by bit: one more level, whether the CRC sequence is right, and what a transmitter sends of it.
 use Rattle.std.proofs.Common.{◌≡◌, ℕ, zero, suc, ◌+◌, ◌-◌, ◌<◌, ◌≤◌, ◌⊎◌, inl, inr, Bool, true, false, not, ◌&&◌, ◌||◌, cond, List, [], ◌∷◌, ◌++◌, length, take, drop, get_or, ◌^◌, refl, sym, ◌∙◌, ap, subst, arith, length-append}
 use Rattle.std.specs.Prelude.{nat_lt, IsTrue, if◌then◌else◌}
 use Rattle.std.proofs.Math.Seq.{take-append-add}
@@ -60,7 +60,7 @@ crc_past u p h = get_or_past (crc_of u) p Dominant (omega (arith, h, length-crc_
 
 -- Whether it agrees.
 
--- whether one of the first so many is true
+-- whether one of the first n is true
 abbrev pub any_of : (ℕ → Bool) → ℕ → Bool
 any_of f zero = false
 any_of f (suc n) = any_of f n || f n
@@ -96,7 +96,7 @@ all_dominant : (l : List Level) → ((p : ℕ) → p < length l → is_recessive
 all_dominant [] h = refl
 all_dominant (x ∷ l) h = rw (level_dominant x (h 0 (omega arith))) (ap (λ t. Dominant ∷ t) (all_dominant l (λ p lt. h (suc p) (omega (arith, lt)))))
 
--- the check sequence of all levels tells, where nothing is left of it
+-- the CRC sequence is right if the CRC of all levels is 0
 agree_by : (u : List Level) (any : Bool) → 15 ≤ length u → any_of (λ p. is_recessive (level_at (crc_of u) p)) 15 ≡ any → not any ≡ agrees u
 agree_by u any long is = agrees-told u (not any) (agreed any is, divided any is)
   where
@@ -121,7 +121,7 @@ agree_is f u long is = agree_by u (any_of f 15) long (sym (any_same f (λ p. is_
 
 -- What is sent.
 
--- behind the levels of a list and some of its check sequence the register has the others
+-- after the levels of a list and some of its CRC sequence, the register has the rest
 register_rest : (h : List Level) (j : ℕ) → j ≤ 15 → crc_of (h ++ take j (crc_of h)) ≡ drop j (crc_of h) ++ none j
 register_rest h j few =
     let c = crc_of h in
@@ -132,7 +132,7 @@ register_rest h j few =
     let long : 15 ≤ length (drop j c ++ none (length t)) = omega (arith, length-append (drop j c) (none (length t)), length-replicate (length t) Dominant, rest) in
     crc_of-on h t ∙ ap (λ r. register r t) (sym (take-append-drop j c)) ∙ register-top t (drop j c) t refl rest ∙ ap (xor (drop j c ++ none (length t))) nothing ∙ xor_zeros (drop j c ++ none (length t)) 15 long ∙ ap (λ n. drop j c ++ none n) size
 
--- its first level is the next one of the check sequence
+-- its first level is the next one of the CRC sequence
 top_is_next : (h : List Level) (j : ℕ) → level_at (crc_of (h ++ take j (crc_of h))) 0 ≡ level_at (crc_of h) j
 top_is_next h j = by (cases_lt j 15)
   where
@@ -153,7 +153,7 @@ below_is n k h = grind (arith, h)
 pub above_is : (n k : ℕ) → k ≤ n → nat_lt n k ≡ false
 above_is n k h = grind (arith, h)
 
--- what follows the first n levels of a list with its check sequence, of which the register is that of these
+-- what follows the first n levels of a list with its CRC sequence; the register is the CRC of these n
 pub next_level : (h u : List Level) (n : ℕ) → u ≡ take n (h ++ crc_of h) → is_recessive (level_at (h ++ crc_of h) n) ≡ (if nat_lt n (length h) then is_recessive (level_at h n) else is_recessive (level_at (crc_of u) 0))
 next_level h u n is = by (cases_lt n (length h))
   where
@@ -169,7 +169,7 @@ next_level h u n is = by (cases_lt n (length h))
 pub term_at : (p : ℕ) (d : Bool) → p < 15 → get_or (true ∷ false ∷ false ∷ false ∷ true ∷ false ∷ true ∷ true ∷ false ∷ false ∷ true ∷ true ∷ false ∷ false ∷ true ∷ []) p d ≡ is_recessive (level_at lower_terms p)
 term_at p d h = get_or-map is_recessive lower_terms p Dominant d h
 
--- at a place where the generator has no term nothing is added
+-- at a bit without a term of the generator polynomial nothing is added
 pub term_left : (fed b t : Bool) → b ≡ false → b ≡ t → false ≡ (fed && t)
 term_left true false false e is = refl
 term_left false false t e is = refl

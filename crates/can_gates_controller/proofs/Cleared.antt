@@ -1,4 +1,4 @@
--- A frame's bytes with 0 behind them, and the frame that fields are.
+-- A frame's bytes with 0 after them, and the frame of fields.
 use Rattle.std.proofs.Common.{◌≡◌, ℕ, suc, zero, ◌+◌, ◌-◌, ◌*◌, ◌/◌, ◌^◌, ◌<◌, ◌≤◌, ◌⊎◌, inl, inr, min, Bool, true, false, not, ◌&&◌, cond, List, [], ◌∷◌, ◌++◌, length, take, drop, get_or, replicate, refl, sym, ◌∙◌, ap, arith}
 use Rattle.std.specs.Prelude.{nat_lt, slice_index}
 use Rattle.std.specs.List.{flat_map}
@@ -32,7 +32,7 @@ has_byte_is b false dlc h = by (cases_lt b dlc)
     by (inl l) = rw (lt-ltb b dlc l, lt-ltb b (min dlc 8) (omega (arith, l, h))) refl
     by (inr l) = rw (le-ltb b dlc l, le-ltb b (min dlc 8) (omega (arith, l, h))) refl
 
--- from places that are 0 behind the last byte
+-- from bits that are 0 after the last byte
 pub cleared_is : (v : ℕ → Bool) → v 0 ≡ false → (made old : List Literal) (n : ℕ) → length made ≡ 64 → ((p : ℕ) → p < 64 → value v (get_or made p never) ≡ (nat_lt (p / 8) n && value v (get_or old p never))) → n ≤ 8 → IsCleared v made old n
 cleared_is v zero_is made old n long is few = record {
   bytes = bytes_same v zero_is n made old (λ p h. let byte : p / 8 < n = omega (arith, h) in is p (omega (arith, h, few)) ∙ rw (lt-ltb (p / 8) n byte) refl);

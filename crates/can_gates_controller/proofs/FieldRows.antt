@@ -1,4 +1,4 @@
--- Frames that fields are, worked out by hand. A literal of signal 0 is its sign, and digits stand with the highest place first.
+-- Hand-computed test vectors of the frames of fields. A literal of signal 0 is its sign, and digits have the highest bit first.
 use Rattle.std.proofs.Common.{◌≡◌, ℕ, Bool, true, false, cond, eqb, List, [], ◌∷◌, map, codes, refl}
 use Rattle.std.specs.Prelude.{reverse}
 use Rattle.can_frame.specs.Parts.{Parts}
@@ -14,7 +14,7 @@ word digits = reverse (map (λ c. cond (eqb c 49) always never) digits)
 abbrev low : ℕ → Bool
 low s = false
 
--- `S 123 D 2 13c4`, with ones behind its identifier and its bytes
+-- `S 123 D 2 13c4`, with ones after its identifier and its bytes
 abbrev standard : Parts
 standard = record { id = record { raw = 0x123; extended = false }; remote = false; dlc = 2; bytes = 0x13 ∷ 0xc4 ∷ [] }
 
@@ -25,7 +25,7 @@ standard_fields : (k : Fields) → k.extended ≡ never → k.remote ≡ never �
 unfolding frame_in nibble value
 standard_fields k extended remote dlc identifier bytes = rw (extended, remote, dlc, identifier, bytes) refl
 
--- `E 12345678 R 9`, and 0 behind its identifier and its bytes, of which it has none
+-- `E 12345678 R 9`, and 0 after its identifier and its bytes, of which it has none
 abbrev extended_remote : Parts
 extended_remote = record { id = record { raw = 0x12345678; extended = true }; remote = true; dlc = 9; bytes = [] }
 

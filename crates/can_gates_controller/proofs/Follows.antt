@@ -1,4 +1,4 @@
--- What a bit time makes of a frame on the bus: of what is heard of it, of whose it is, and what is told.
+-- A bit time of the frame on the bus: what has been received of it, whose frame it is, and the event.
 use Rattle.std.proofs.Common.{◌≡◌, ℕ, ◌+◌, ◌-◌, Bool, true, false, cond, Option, Some, None, refl, sym, ◌∙◌, ap, length}
 use Rattle.std.specs.Prelude.{◌&&◌}
 use Rattle.std.proofs.Math.Dec.{eqb, ltb}

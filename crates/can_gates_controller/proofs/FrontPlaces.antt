@@ -45,7 +45,7 @@ due front x = record { unstuffed = front.unstuffed; last = x; run = 1 }
 abbrev plain : FrontParts → Level → FrontParts
 plain front x = record { unstuffed = front.unstuffed ++ x ∷ []; last = x; run = run_after front.last front.run x }
 
--- the same of a front, where a stuff bit leaves the unstuffed levels as they are
+-- a bit of what has been received; a stuff bit leaves the unstuffed levels as they are
 pub heard_place : (front : FrontParts) (x : Level) (b : Bool) (p : ℕ) → eqb front.run 5 ≡ b → (is_recessive (level_at front.unstuffed p) || (eqb (length front.unstuffed) p && (not b && is_recessive x))) ≡ is_recessive (level_at (heard_level front x).unstuffed p)
 heard_place front x true p at =
     rw (and_false (eqb (length front.unstuffed) p)) (or_false (is_recessive (level_at front.unstuffed p)))
@@ -61,12 +61,12 @@ heard_count front x false at h =
     let more : min (length front.unstuffed + 1) 127 ≡ length (front.unstuffed ++ x ∷ []) = omega (arith, h, length-append front.unstuffed (x ∷ [])) in
     more ∙ ap (λ (f : FrontParts). length f.unstuffed) (sym (cond-false (eqb front.run 5) (due front x) (plain front x) at))
 
--- a place of the one check sequence, or of the other
+-- a bit of the one CRC register, or of the other
 pub chosen_check : (b : Bool) (more old : List Level) (p : ℕ) (new was : Bool) → new ≡ is_recessive (level_at (crc_of more) p) → was ≡ is_recessive (level_at (crc_of old) p) → cond b new was ≡ is_recessive (level_at (crc_of (cond b more old)) p)
 chosen_check true more old p new was e f = e
 chosen_check false more old p new was e f = f
 
--- the unstuffed levels behind a level
+-- the unstuffed levels after a level
 pub heard_unstuffed : (front : FrontParts) (x : Level) (b : Bool) → eqb front.run 5 ≡ b → cond (not b) (front.unstuffed ++ x ∷ []) front.unstuffed ≡ (heard_level front x).unstuffed
 heard_unstuffed front x true at = ap (λ (f : FrontParts). f.unstuffed) (sym (cond-true (eqb front.run 5) (due front x) (plain front x) at))
 heard_unstuffed front x false at = ap (λ (f : FrontParts). f.unstuffed) (sym (cond-false (eqb front.run 5) (due front x) (plain front x) at))

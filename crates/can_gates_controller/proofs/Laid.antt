@@ -32,7 +32,7 @@ use Rattle.can_wire.proofs.LayoutRead.{bit_back}
 abbrev frame_from : ℕ → Bool → Bool → ℕ → List ℕ → Parts
 frame_from raw extended remote dlc bytes = record { id = record { raw = raw; extended = extended }; remote = remote; dlc = dlc; bytes = bytes }
 
--- what stands behind the identifier: RTR, in a standard frame IDE and r0, in an extended one r1 and r0, and the same of both
+-- what follows the identifier: RTR, in a standard frame IDE and r0, in an extended one r1 and r0, and the same of both
 abbrev behind_levels : Bool → ℕ → List Level → List Level
 behind_levels remote dlc rest = level_from remote ∷ Dominant ∷ Dominant ∷ (bits_of 4 dlc ++ rest)
 
@@ -137,7 +137,7 @@ module _ (v : ℕ → Bool) (zero_is : v 0 ≡ false) where
 -- The levels place by place.
 
 module _ (k : Fields) (word : List Literal) where
-  -- a place of the first so many literals behind the start of frame, in the other order
+  -- an index of the first n literals after the start of frame, in reverse order
   identifier_level : (n : ℕ) (items rest : List Literal) (p : ℕ) → 1 ≤ p → p < 1 + n → get_or items (n - p) never ≡ get_or (never ∷ (turned_word n items ++ rest)) p never
   identifier_level n items rest zero low h = absurd (omega (arith, low))
   identifier_level n items rest (suc p) low h =

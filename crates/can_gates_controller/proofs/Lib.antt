@@ -1,7 +1,7 @@
 -- For this crate: the front of a frame
 pub mod FrontPlaces
 pub mod Lengths
--- the check sequence
+-- the CRC sequence
 pub mod Checks
 -- what a bit time makes of a frame, by the phase
 pub mod Follows

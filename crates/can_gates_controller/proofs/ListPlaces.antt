@@ -1,4 +1,4 @@
--- The places of lists that stand behind one another.
+-- The indices of lists that follow one another.
 use Rattle.can_gates.specs.Circuit.{never}
 use Rattle.std.proofs.Common.{◌≡◌, ℕ, ◌-◌, ◌<◌, ◌≤◌, List, [], ◌∷◌, ◌++◌, length, get_or, refl, sym, ◌∙◌, ap, arith, length-append}
 use Rattle.std.proofs.lemmas.List.{get_or_append_left, get_or-append_right}
@@ -11,7 +11,7 @@ use Rattle.can_gates_controller.specs.declared.ports.OutputPorts.{OutputPorts}
 use Rattle.can_gates_controller.specs.Listed.{placed, nibble_before, wires_list, counters_list, heard_list, register_list, field_list, output_list}
 use Rattle.can_gates_controller.proofs.ListedLemmas.{length-placed, placed_at, placed_whole, length-counters, length-heard}
 
--- a place of the first list, of so many literals, or of the second one
+-- an index of the first list, of n literals, or of the second one
 
 pub left_at : (a b : List Literal) (n p : ℕ) → length a ≡ n → p < n → get_or a p never ≡ get_or (a ++ b) p never
 left_at a b n p long h = sym (get_or_append_left a b never p (omega (arith, long, h)))

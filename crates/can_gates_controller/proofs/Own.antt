@@ -24,7 +24,7 @@ use Rattle.can_code.proofs.UnstuffedLevels.{unstuffed-complete}
 use Rattle.can_mac.specs.State.{IsOpen}
 use Rattle.can_gates_controller.proofs.Checks.{next_level}
 
--- dominant levels behind a head complete it
+-- dominant levels after a head complete it
 pub frame_len-head : (f : Parts) → IsFrame f → frame_len (head f) ≡ length (head f) + 15
 frame_len-head f is =
     let whole = (head-complete f (none 15) is refl).whole in
@@ -76,7 +76,7 @@ chosen_level true false level top x y w e l t is = cc e
 chosen_level false true level top x y w e l t is = cc e
 chosen_level false false level top x y w e l t is = t ∙ sym is
 
--- the next level of its frame, from its head or from the top of the running check sequence
+-- the next level of its frame, from its head or from the highest bit of the CRC register
 pub next_own_level : (f : Parts) → IsFrame f → (u : List Level) (n : ℕ) (of_head level top : Bool) → u ≡ take n (unstuffed f) → of_head ≡ nat_lt n (length (head f)) → (n < 103 → level ≡ is_recessive (level_at (head f) n)) → top ≡ is_recessive (level_at (crc_of u) 0) → cond of_head level top ≡ is_recessive (sent_level f n)
 unfolding unstuffed
 next_own_level f is u n of_head level top sent test level_is top_is =

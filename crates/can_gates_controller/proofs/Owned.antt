@@ -1,4 +1,4 @@
--- A sender's frame behind a bit time, and the frame that is told.
+-- A transmitter's frame after a bit time, and the frame of the event.
 use Rattle.std.proofs.Common.{◌≡◌, ℕ, ◌<◌, Bool, true, false, ◌||◌, cond, Option, Some, List, length, take, get_or, refl, subst, ◌∙◌, ap}
 use Rattle.can_frame.specs.declared.level.Level.{Level}
 use Rattle.can_frame.specs.Parts.{Parts}
@@ -37,7 +37,7 @@ pub event_is : (v : ℕ → Bool) (k : Controller) (after : MacState × Option E
 unfolding shown
 event_is v k after h = ap (λ (n : Numbers). n.event) h.state
 
--- whose frame it is where the next phase is one of a frame
+-- whose frame it is, if the next phase is one of a frame
 owns_in : (p q : MacPhase) (role new : Role) (waiting : Option Parts) (x : Level) → is_in_frame q ≡ true → IsPhaseBehind p role waiting x q new → KeepsOwn p role waiting new
 owns_in p (StuffedPart front) role new waiting x e is = is.1.0
 owns_in p (CrcDelimiter r) role new waiting x e is = is.1.0
@@ -74,7 +74,7 @@ module _ (v : ℕ → Bool) (old made offered : List Literal) where
     sent = λ f front e role. own_sent m.phase m.role new waiting x front f is_mac.phase is_mac.role (held.sent f) (front_in m.phase q m.role new waiting x front e is) (owns_in m.phase q m.role new waiting x (ap is_in_frame e) is) (sees_in m.phase q m.role new waiting x front e is) role;
   }
 
--- the frame that is told
+-- the frame of the event
 pub told_frame : (v : ℕ → Bool) (k : Registers) (m : MacState) (e : Option Event) → HoldsAll v k m → IsEventIn m.phase m.role e → TellsFrame v k e
 told_frame v k m e held told = record {
   sent = λ f is. let t = subst (λ e. IsEventIn m.phase m.role e) is told in held.own.levels f t.0 t.1;

@@ -77,7 +77,7 @@ front_or d (Some f) = f
 pub same_front : (f g : FrontParts) → Some f ≡ Some g → f ≡ g
 same_front f g e = ap (front_or f) e
 
--- a front tells of its unstuffed levels
+-- a stuffed part that has ended has all its unstuffed levels
 ended_whole : (front : FrontParts) → ends_part front ≡ true → length front.unstuffed ≡ frame_len front.unstuffed
 ended_whole front e = sym (eqb-true (frame_len front.unstuffed) (length front.unstuffed) (first_of_and (has_check front.unstuffed) (not (eqb front.run 5)) e))
   where

@@ -11,7 +11,7 @@ use Rattle.can_gates_controller.specs.Steps.{ControllerStep, asked, state_behind
 abbrev passing : Level → ControllerStep
 passing level = record { reset = false; joins = false; enable = true; wish = None; waiting = None; level = level }
 
--- at a reset nothing else counts
+-- at a reset no other input has an effect
 reset_idles : state_behind joining (record (passing Recessive) { reset = true }) ≡ idle
 reset_idles = refl
 
@@ -21,7 +21,7 @@ reset_joins = refl
 reset_tells_nothing : told_in idle (record (passing Dominant) { reset = true }) ≡ None
 reset_tells_nothing = refl
 
--- without a bit time nothing changes: neither does a wish
+-- without a bit time nothing changes, also with a request
 rests : state_behind idle (record (passing Dominant) { enable = false; wish = Some 1 }) ≡ idle
 rests = refl
 
@@ -34,7 +34,7 @@ counts_two : state_before joining (λ t. passing Recessive) 2 ≡ starting (Join
 unfolding mac_step
 counts_two = refl
 
--- two own overload frames may be asked for, and three not
+-- two own overload frames may be requested, but not three
 two_wishes : asked (Some 2) idle ≡ holding 2 idle
 two_wishes = refl
 

@@ -1,5 +1,5 @@
--- Who is idle, joining or off the bus is no sender, and the first level behind an error flag has no dominant one before it: each bit
--- time keeps that.
+-- A controller that is idle, joining or bus-off is no transmitter, and no dominant level comes before the first level after an error flag: each bit
+-- time preserves this.
 use Rattle.std.proofs.Common.{◌≡◌, ℕ, ◌+◌, ◌-◌, Bool, true, false, cond, length, Option, Some, None, refl}
 use Rattle.std.specs.Prelude.{◌&&◌}
 use Rattle.std.proofs.Math.Dec.{eqb, ltb}

@@ -15,7 +15,7 @@ use Rattle.can_gates_controller.specs.declared.registers.Registers.{Registers}
 use Rattle.can_gates_controller.specs.Stepped.{TakesLevels}
 use Rattle.can_gates_controller.specs.Whole.{HoldsAll}
 
--- the numbers of registers: what a bit time has counted and told isn't held
+-- the numbers of registers: the cause and the event of a bit time are not stored
 abbrev pub held_numbers : Numbers → Numbers
 held_numbers n = record n { cause = 0; event = 0 }
 
@@ -38,7 +38,7 @@ pub record Takes (before now : ℕ → Bool) (held next : Registers) : Type 0 wh
   pub heard : TakesHeard before now held.heard next.heard
   pub own : TakesLevels before now 103 held.own next.own
 
--- all registers of the controller are 0, but for the lowest place of its phase where it joins; those of frames may be any
+-- all registers of the controller are 0, except that the lowest bit of its phase is whether it joins; those of frames may have any value
 pub record IsReset (v : ℕ → Bool) (k : Registers) (joins : Bool) : Type 0 where
   pub wires : held_numbers (shown v k.controller.wires) ≡ reset_numbers (cond joins 1 0)
   pub tec : number v k.controller.counters.tec ≡ 0

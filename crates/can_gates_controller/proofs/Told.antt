@@ -34,7 +34,7 @@ use Rattle.can_gates_controller.proofs.ListPlaces.{left_at, right_at}
 use Rattle.can_gates_controller.proofs.WordParts.{number-split}
 use Rattle.can_gates_controller.proofs.TurnedLevels.{levels_in, length-turned, turned_at, number_turned, bytes_turned, filled_same, bytes_from_same, levels_behind}
 
--- a frame's own levels tell it
+-- a frame is that of its own levels
 pub own_frame_of : (f : Parts) → IsFrame f → frame_of (head f) ≡ f
 own_frame_of f is = ap frame_of (sym (append-nil (head f))) ∙ frame_of-head f [] is
 
@@ -93,7 +93,7 @@ module _ (v : ℕ → Bool) (zero_is : v 0 ≡ false) where
       let parts = short_word word x is small in
       (parts.0 ∙ number_behind levels u 1 11 (λ p h. held (1 + p) (omega (arith, h))), parts.1)
 
-  -- what stands behind it, in both formats
+  -- what follows it, in both formats
 
   behind_told : (levels behind : List Literal) (u : List Level) (e : Bool) → HoldsLevels v levels u → ((p : ℕ) → p < 71 → value v (get_or behind p never) ≡ cond e (value v (get_or (drop 32 levels) p never)) (value v (get_or (drop 12 levels) p never))) → (p : ℕ) → p < 71 → value v (get_or behind p never) ≡ is_recessive (level_at (drop (rtr_place e) u) p)
   behind_told levels behind u true held chosen p h = chosen p h ∙ ap (value v) (get_or-drop 32 levels p never) ∙ held (32 + p) (omega (arith, h)) ∙ ap is_recessive (sym (get_or-drop 32 u p Dominant))
@@ -139,7 +139,7 @@ module _ (v : ℕ → Bool) (zero_is : v 0 ≡ false) where
         bytes = ap (λ m. number v (drop (8 * m) k.bytes)) counted ∙ clear.behind;
       }
 
--- The frame that is told.
+-- The frame of an event.
 
 module _ (v : ℕ → Bool) (k : Registers) (m : MacState) (levels : List Literal) where
   of_sender : (t : Bool) (f : Parts) → t ≡ is_sender (Sender f) → HoldsLevels v k.own (head f) → ((p : ℕ) → p < 103 → value v (get_or levels p never) ≡ cond t (value v (get_or k.own p never)) (value v (get_or k.heard.levels p never))) → HoldsLevels v levels (head f)

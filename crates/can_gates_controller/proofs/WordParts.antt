@@ -31,7 +31,7 @@ bytes_same v zero_is (suc n) a b same =
     let rest = bytes_same v zero_is n (drop 8 a) (drop 8 b) (λ p h. ap (value v) (get_or-drop 8 a p never) ∙ same (8 + p) (omega (arith, h)) ∙ sym (ap (value v) (get_or-drop 8 b p never))) in
     ap (λ t. t ∷ bytes_in v n (drop 8 a)) (number_same v zero_is 8 a b (λ p h. same p (omega (arith, h)))) ∙ ap (λ t. number v (take 8 b) ∷ t) rest
 
--- the number of one of two words, where each place is chosen
+-- the number of one of two words, if each bit is chosen
 pub number_chosen : (v : ℕ → Bool) → v 0 ≡ false → (t : Bool) (n : ℕ) (made a b : List Literal) → length made ≤ n → length a ≤ n → length b ≤ n → ((p : ℕ) → p < n → value v (get_or made p never) ≡ cond t (value v (get_or a p never)) (value v (get_or b p never))) → number v made ≡ cond t (number v a) (number v b)
 number_chosen v zero_is true n made a b long long_a long_b is = rw (take_all n made long, take_all n a long_a) at (number_same v zero_is n made a is)
 number_chosen v zero_is false n made a b long long_a long_b is = rw (take_all n made long, take_all n b long_b) at (number_same v zero_is n made b is)

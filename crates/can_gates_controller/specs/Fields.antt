@@ -1,4 +1,4 @@
--- A frame by its fields. (Bosch CAN 2.0 part B, section 3.2.1)
+-- A frame as its fields. (Bosch CAN 2.0 part B, section 3.2.1)
 use Rattle.std.specs.Prelude.{ℕ, zero, suc, ◌≡◌, ◌*◌, Bool, if◌then◌else◌, List, [], ◌∷◌, Option, Some, None, length, take, drop}
 use Rattle.can_frame.specs.Parts.{Parts, byte_count}
 use Rattle.can_mac.specs.declared.event.Event.{Event}
@@ -9,16 +9,16 @@ use Rattle.can_gates.specs.Words.{number}
 use Rattle.can_gates_mac.specs.Nibbles.{nibble}
 use Rattle.can_gates_controller.specs.declared.fields.Fields.{Fields}
 
--- how many places an identifier has
+-- how many bits an identifier has
 abbrev pub identifier_places : Bool → ℕ
 identifier_places extended = if extended then 29 else 11
 
--- the first n bytes of a word, each of eight places
+-- the first n bytes of a word, each of eight bits
 abbrev pub bytes_in : (ℕ → Bool) → ℕ → List Literal → List ℕ
 bytes_in v zero word = []
 bytes_in v (suc n) word = number v (take 8 word) ∷ bytes_in v n (drop 8 word)
 
--- the frame that fields are, whatever their values. What stands behind its identifier, or behind its last byte, isn't looked at
+-- the frame of fields, for any values. What follows its identifier, or its last byte, is not read
 unfoldable pub frame_in : (ℕ → Bool) → Fields → Parts
 frame_in v k = record {
   id = record { raw = number v (take (identifier_places (value v k.extended)) k.identifier); extended = value v k.extended };
@@ -27,7 +27,7 @@ frame_in v k = record {
   bytes = bytes_in v (byte_count (value v k.remote) (nibble v k.dlc)) k.bytes;
 }
 
--- the fields are those of this frame, and 0 behind its identifier and behind its last byte
+-- the fields are those of this frame, and 0 after its identifier and after its last byte
 pub record HoldsFields (v : ℕ → Bool) (k : Fields) (f : Parts) : Type 0 where
   pub frame : frame_in v k ≡ f
   pub identifier : number v (drop (identifier_places f.id.extended) k.identifier) ≡ 0

@@ -1,4 +1,4 @@
--- A controller's frame in a circuit's registers.
+-- The frame of a controller in a circuit's registers.
 use Rattle.std.specs.Prelude.{ℕ, ◌≡◌, Bool, true, false, List, length, Option, Some}
 use Rattle.can_frame.specs.declared.level.Level.{Level}
 use Rattle.can_frame.specs.Levels.{is_recessive}
@@ -17,7 +17,7 @@ use Rattle.can_gates_controller.specs.declared.heard.Heard.{Heard}
 use Rattle.can_gates_controller.specs.declared.seen.Seen.{Seen}
 use Rattle.can_gates_controller.specs.Fronts.{HoldsLevels, HoldsCheck, HoldsFront, TellsSender}
 
--- whether a frame is on the bus that isn't over or broken off: its stuffed part, or what stands behind that
+-- whether a frame is on the bus that is neither over nor aborted: in its stuffed part, or after that
 abbrev pub is_in_frame : MacPhase → Bool
 is_in_frame (StuffedPart front) = true
 is_in_frame (CrcDelimiter r) = true
@@ -35,7 +35,7 @@ is_in_frame (Intermission place) = false
 is_in_frame (Suspend place) = false
 is_in_frame BusOff = false
 
--- the registers have the levels of a stuffed part that has told this, their count and their check sequence
+-- the registers have the unstuffed bits of a frame with this reading, their number and their CRC
 pub record HoldsTold (v : ℕ → Bool) (k : Heard) (r : Reading) : Type 0 where
   pub unstuffed : List Level
   pub whole : length unstuffed ≡ frame_len unstuffed
@@ -44,12 +44,13 @@ pub record HoldsTold (v : ℕ → Bool) (k : Heard) (r : Reading) : Type 0 where
   pub count : number v k.count ≡ length unstuffed
   pub check : HoldsCheck v k.check unstuffed
 
--- in a frame the registers hold what is heard of it: its front, and behind the stuffed part what that has told
+-- in a frame the registers hold what has been received of it: in its stuffed part the levels so far, after that its
+-- reading
 pub record HoldsHeard (v : ℕ → Bool) (k : Heard) (p : MacPhase) : Type 0 where
   pub front : (front : FrontParts) → p ≡ StuffedPart front → HoldsFront v k front
   pub told : (r : Reading) → reading_in p ≡ Some r → HoldsTold v k r
 
--- what a controller reads besides its registers, where this frame waits and this level is seen
+-- what a controller reads besides its registers, with this pending frame and this sampled level
 pub record IsSeen (v : ℕ → Bool) (k : Seen) (m : MacState) (waiting : Option Parts) (x : Level) : Type 0 where
   pub waits : value v k.waits ≡ is_waiting waiting
   pub seen : value v k.seen ≡ is_recessive x

@@ -1,4 +1,4 @@
--- What registers take in a step, by the list of their literals.
+-- The next values of registers in a step, by the list of their literals.
 use Rattle.std.specs.Prelude.{ℕ, ◌≡◌, ◌<◌, ◌==◌, ◌&&◌, Bool, true, false, if◌then◌else◌, List}
 use Rattle.can_mac.specs.State.{MacState, idle, joining}
 use Rattle.can_gates.specs.declared.literal.Literal.{Literal}
@@ -12,27 +12,27 @@ use Rattle.can_gates_controller.specs.Steps.{state_behind}
 use Rattle.can_gates_controller.specs.Runs.{step_in, Shows}
 use Rattle.can_gates_controller.specs.Listed.{register_list}
 
--- a register that takes this literal, and starts with 0
+-- a register with this next value, which starts with 0
 pub record IsRegister (r : Register) (l : Literal) : Type 0 where
   pub next : r.next ≡ l
   pub starts : r.starts ≡ false
 
--- so many literals are now what others were before
+-- these literals now have the values that others had before
 abbrev pub TakesLevels : (ℕ → Bool) → (ℕ → Bool) → ℕ → List Literal → List Literal → Type 0
 TakesLevels before now places held next = (p : ℕ) → p < places → value_at now held p ≡ value_at before next p
 
--- what a register of this place takes: at a reset 0, but the first one whether the controller joins; else what a bit time makes,
--- or where none passes what it holds
+-- the next value of the register with this index: at a reset 0, except that the first is whether the controller joins; otherwise that after the bit
+-- time, or the present one if none passes
 abbrev pub taken_at : Bool → Bool → Bool → ℕ → Bool → Bool → Bool
 taken_at reset joins enable place next held = if reset then place == 0 && joins else (if enable then next else held)
 
--- registers that take these literals at a reset hold an idle controller, or one that joins
+-- at a reset, registers that take these literals hold an idle controller, or a joining one
 abbrev pub TakesReset : (ℕ → Bool) → InputPorts → Registers → List Literal → Type 0
 TakesReset before k held taken =
     (now : ℕ → Bool) → value before k.reset ≡ true → TakesLevels before now 277 (register_list held) taken →
     HoldsAll now held (if value before k.joins then joining else idle)
 
--- registers that take these literals hold the next state, and what goes out is that of the machine
+-- registers that take these literals hold the next state, and the outputs are those of the machine
 abbrev pub TakesStep : (ℕ → Bool) → InputPorts → OutputPorts → Registers → List Literal → Type 0
 TakesStep before i o held taken =
     (m : MacState) → HoldsAll before held m →

@@ -1,4 +1,4 @@
--- What comes in step by step, and the controller's run over it.
+-- The inputs of each step, and the controller's run with them.
 use Rattle.std.specs.Prelude.{ℕ, zero, suc, nat_le, Bool, if◌then◌else◌, Option, Some, None}
 use Rattle.can_frame.specs.declared.level.Level.{Level}
 use Rattle.can_frame.specs.Parts.{Parts}
@@ -6,8 +6,8 @@ use Rattle.can_mac.specs.declared.event.Event.{Event}
 use Rattle.can_mac.specs.State.{MacState, idle, joining}
 use Rattle.can_mac.specs.Machine.{mac_step, holding}
 
--- one step: whether it is a reset, and the controller then joins; else whether a bit time passes; how many own overload frames
--- are asked for before that, where any number is; the frame that waits; and the level that is sampled
+-- one step: whether it is a reset, and the controller then joins; otherwise whether a bit time passes; the request for own overload frames before it,
+-- if any; the pending frame; and the sampled level
 pub record ControllerStep : Type 0 where
   pub reset : Bool
   pub joins : Bool
@@ -16,7 +16,7 @@ pub record ControllerStep : Type 0 where
   pub waiting : Option Parts
   pub level : Level
 
--- so many own overload frames are asked for: more than two are refused, and change nothing
+-- a request for n own overload frames: more than two are refused, and change nothing
 abbrev pub asked : Option ℕ → MacState → MacState
 asked None m = m
 asked (Some n) m = if nat_le n 2 then holding n m else m
@@ -25,11 +25,11 @@ asked (Some n) m = if nat_le n 2 then holding n m else m
 abbrev pub step_time : MacState → ControllerStep → MacState × Option Event
 step_time m s = mac_step (asked s.wish m) s.waiting s.level
 
--- the state behind a step: behind a reset an idle controller, or one that joins; where no bit time passes the same
+-- the state after a step: after a reset an idle controller, or a joining one; the same if no bit time passes
 abbrev pub state_behind : MacState → ControllerStep → MacState
 state_behind m s = if s.reset then (if s.joins then joining else idle) else (if s.enable then (step_time m s).0 else m)
 
--- what a step tells: nothing where no bit time passes
+-- the event of a step: none if no bit time passes
 abbrev pub told_in : MacState → ControllerStep → Option Event
 told_in m s = if s.reset then None else (if s.enable then (step_time m s).1 else None)
 

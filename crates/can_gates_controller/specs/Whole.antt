@@ -1,4 +1,4 @@
--- A controller with the frame on the bus in a circuit's registers, and what a bit time makes of it.
+-- A controller with the frame on the bus in a circuit's registers, and one bit time of it.
 use Rattle.std.specs.Prelude.{ℕ, ◌≡◌, Bool, true, List, Option, Some, length, take}
 use Rattle.can_frame.specs.declared.level.Level.{Level}
 use Rattle.can_frame.specs.Levels.{is_recessive}
@@ -25,13 +25,13 @@ use Rattle.can_gates_controller.specs.declared.registers.BitTime.{BitTime}
 use Rattle.can_gates_controller.specs.Fronts.{HoldsLevels}
 use Rattle.can_gates_controller.specs.Holding.{is_in_frame, HoldsHeard}
 
--- within a frame its sender's registers hold it up to the end of its data, and what the sender has heard is what it sent
+-- within a frame the transmitter's registers hold its bits to the end of the data field, and what the transmitter has received is what it sent
 pub record HoldsOwn (v : ℕ → Bool) (own : List Literal) (p : MacPhase) (role : Role) : Type 0 where
   pub levels : (f : Parts) → is_in_frame p ≡ true → role ≡ Sender f → HoldsLevels v own (head f)
   pub sent : (f : Parts) (front : FrontParts) → p ≡ StuffedPart front → role ≡ Sender f → front.unstuffed ≡ take (length front.unstuffed) (unstuffed f)
 
--- what each run keeps, besides IsMac: who is idle, joining or off the bus is no sender, and the first level behind an error flag has
--- no dominant one before it
+-- an invariant of each run, besides IsMac: a controller that is idle, joining or bus-off is no transmitter, and no dominant level comes before the
+-- first level after an error flag
 abbrev pub IsSettled : MacPhase → Role → Type 0
 IsSettled Idle role = role ≡ Receiver
 IsSettled (Joining row) role = role ≡ Receiver
@@ -47,18 +47,18 @@ pub record HoldsAll (v : ℕ → Bool) (k : Registers) (m : MacState) : Type 0 w
   pub heard : HoldsHeard v k.heard m.phase
   pub own : HoldsOwn v k.own m.phase m.role
 
--- this frame waits, where one does
+-- this is the pending frame, if any
 pub record Offers (v : ℕ → Bool) (k : Offered) (waiting : Option Parts) : Type 0 where
   pub frame : IsFrameOrNone waiting
   pub waits : value v k.waits ≡ is_waiting waiting
   pub levels : (f : Parts) → waiting ≡ Some f → HoldsLevels v k.levels (head f)
 
--- the frame that is told is the one that registers hold: its sender's, or what was heard
+-- the frame of the event is the one in the registers: the transmitter's, or the received one
 pub record TellsFrame (v : ℕ → Bool) (k : Registers) (told : Option Event) : Type 0 where
   pub sent : (f : Parts) → told ≡ Some (Sent f) → HoldsLevels v k.own (head f)
   pub received : (f : Parts) → told ≡ Some (Received f) → (u : List Level) × ((f ≡ frame_of u) × HoldsLevels v k.heard.levels u)
 
--- what a controller in these registers makes of a bit time in which this frame waits and this level is seen
+-- the bit time of a controller in these registers, with this pending frame and this sampled level
 pub record IsBitTime (v : ℕ → Bool) (k : BitTime) (held : Registers) (m : MacState) (waiting : Option Parts) (x : Level) : Type 0 where
   pub next : HoldsAll v k.next (mac_step m waiting x).0
   pub drives : value v k.recessive ≡ is_recessive (mac_drives m waiting)

@@ -1,4 +1,4 @@
-//! The running check sequence: that of the levels heard so far. (Bosch CAN 2.0 part B, section 3.2.1)
+//! The CRC register: the CRC of the unstuffed levels received so far. (Bosch CAN 2.0 part B, section 3.2.1)
 ghost use Rattle.std.specs.Prelude.{◌≡◌, ◌+◌, ◌<◌, ◌≤◌, ◌&&◌, ◌++◌, ◌∷◌, [], ℕ, Bool, false, if◌then◌else◌, List, length};
 ghost use Rattle.can_frame.specs.declared.level.Level.{Level};
 ghost use Rattle.can_frame.specs.Levels.{is_recessive};
@@ -11,16 +11,16 @@ ghost use Rattle.can_gates_controller.specs.Fronts.{HoldsCheck};
 use crate::levels::choose_levels;
 use can_gates::{Circuit, FALSE, Literal};
 
-/// How many places a check sequence has.
+/// How many bits a CRC sequence has.
 pub(crate) const PLACES: usize = 15;
 
-/// Whether the generator has each of its terms below the highest, from that of x^14 on.
+/// Whether the generator polynomial has each of its terms below the highest, from x^14 on.
 const TERMS: [bool; 15] = [
     true, false, false, false, true, false, true, true, false, false, true, true, false, false,
     true,
 ];
 
-/// The check sequence of the same levels and one more.
+/// The CRC register after one more level.
 fn divide(circuit: &mut Circuit, check: &[Literal; 15], level: Literal) -> [Literal; 15]
     ensures { Makes circuit.old circuit.new (λ v. (u : List Level) (x : Level) → HoldsCheck v check.now u → value v level ≡ is_recessive x → HoldsCheck v result (u ++ x ∷ [])) }
 {
@@ -28,7 +28,7 @@ fn divide(circuit: &mut Circuit, check: &[Literal; 15], level: Literal) -> [Lite
     divided(circuit, check, fed)
 }
 
-/// The same, or where the level isn't one of the unstuffed ones what it was.
+/// The CRC register after one more level, or unchanged if the level is a stuff bit.
 pub(crate) fn next_check(
     circuit: &mut Circuit,
     check: &[Literal; 15],
@@ -41,7 +41,7 @@ pub(crate) fn next_check(
     choose_levels(circuit, plain, &more, check)
 }
 
-/// The check sequence of the same levels and one more, where the level and the highest place differ or are equal.
+/// The CRC register after one more level, given whether that level and the highest bit differ.
 fn divided(circuit: &mut Circuit, check: &[Literal; 15], fed: Literal) -> [Literal; 15]
     ensures { Makes circuit.old circuit.new (λ v. (u : List Level) (x : Level) → HoldsCheck v check.now u → value v fed ≡ differ (is_recessive (level_at (crc_of u) 0)) (is_recessive x) → HoldsCheck v result (u ++ x ∷ [])) }
 {
@@ -54,7 +54,7 @@ fn divided(circuit: &mut Circuit, check: &[Literal; 15], fed: Literal) -> [Liter
     all
 }
 
-/// The place below, which past the lowest one is dominant.
+/// The next lower bit, dominant after the lowest.
 fn next_place(check: &[Literal; 15], place: usize) -> Literal
     requires { place < 15 }
     ensures { (v : ℕ → Bool) (u : List Level) → v 0 ≡ false → HoldsCheck v check.now u → value v result ≡ is_recessive (level_at (crc_of u) (place + 1)) }
@@ -65,7 +65,7 @@ fn next_place(check: &[Literal; 15], place: usize) -> Literal
     check[place + 1]
 }
 
-/// What is added at a place.
+/// The bit of the generator polynomial with this index if `fed` is true, otherwise dominant.
 fn term_of(fed: Literal, place: usize) -> Literal
     requires { place < 15 }
     ensures { (v : ℕ → Bool) → v 0 ≡ false → value v result ≡ (value v fed && is_recessive (level_at lower_terms place)) }
@@ -76,7 +76,7 @@ fn term_of(fed: Literal, place: usize) -> Literal
     FALSE
 }
 
-/// Whether levels that have their whole check sequence agree with it: nothing is left of them.
+/// Whether the CRC sequence at the end of these levels is right: then the CRC register is 0.
 pub(crate) fn agrees(circuit: &mut Circuit, check: &[Literal; 15]) -> Literal
     ensures { Makes circuit.old circuit.new (λ v. (u : List Level) → 15 ≤ length u → HoldsCheck v check.now u → value v result ≡ check_agrees u) }
 {

@@ -3,19 +3,19 @@ use crate::ports::{InputPorts, OutputPorts};
 use crate::registers::Registers;
 use can_gates::{Circuit, Literal, Register};
 
-/// A controller as a circuit: what comes in, what its registers hold, and what goes out.
+/// A controller as a circuit: inputs, registers and outputs.
 #[derive(Drop)]
 pub struct Design {
     /// The circuit.
     pub circuit: Circuit,
-    /// What comes in.
+    /// Its inputs.
     pub inputs: InputPorts,
-    /// What the registers hold.
+    /// The values of its registers.
     pub held: Registers,
-    /// What goes out.
+    /// Its outputs.
     pub outputs: OutputPorts,
-    /// The registers, the circuit's last inputs, as a file has them.
+    /// Its registers, which are the circuit's last inputs, in the order of a file.
     pub registers: Vec<Register>,
-    /// What goes out, as a file has it.
+    /// Its outputs, in the order of a file.
     pub listed: Vec<Literal>,
 }

@@ -1,4 +1,4 @@
-//! A frame by its fields. (Bosch CAN 2.0 part B, section 3.2.1)
+//! A frame as its fields. (Bosch CAN 2.0 part B, section 3.2.1)
 ghost use Rattle.std.specs.Prelude.{◌≡◌, ◌<◌, ℕ, Bool, nat_lt};
 ghost use Rattle.can_frame.specs.Parts.{IsFrame, byte_count};
 ghost use Rattle.can_gates.specs.Circuit.{value, Makes};
@@ -9,26 +9,26 @@ ghost use Rattle.can_gates_controller.specs.Laying.{IsCleared};
 use can_gates::{Circuit, FALSE, Literal, literal_at};
 use can_gates_mac::Nibble;
 
-/// How many places the data have.
+/// How many bits the data have.
 const PLACES: usize = 64;
 
-/// A frame by its fields.
+/// A frame as its fields.
 #[derive(Clone, Copy)]
 pub struct Fields {
-    /// Whether its identifier is one of 29 bits.
+    /// Whether its identifier has 29 bits.
     pub extended: Literal,
     /// Whether it is a remote frame.
     pub remote: Literal,
-    /// The identifier, the lowest place first. A standard one has the lowest eleven.
+    /// The identifier, the lowest bit first. A standard one is in the lowest eleven.
     pub identifier: [Literal; 29],
     /// The data length code.
     pub dlc: Nibble,
-    /// The data: byte k has those from 8 k on, the lowest first.
+    /// The data: byte k is bits 8 k to 8 k + 7, the lowest first.
     pub bytes: [Literal; 64],
 }
 
 impl Fields {
-    /// Whatever values its literals have, they are a frame's. It does nothing.
+    /// For any values of its literals, the fields are those of a frame. A law: it does nothing.
     pub fn are_a_frame(&self)
         ensures { (v : ℕ → Bool) → IsFrame (frame_in v self.now) }
     {
@@ -36,7 +36,7 @@ impl Fields {
     }
 }
 
-/// The data of a frame with this RTR bit and data length code, and 0 behind its last byte.
+/// The data of a frame with this RTR bit and data length code; 0 after its last byte.
 pub(crate) fn clear_behind(
     circuit: &mut Circuit,
     remote: Literal,
@@ -53,7 +53,7 @@ pub(crate) fn clear_behind(
     all
 }
 
-/// Whether a frame has the byte of this number, of which the first is byte 0.
+/// Whether a frame has the byte with this index; the first is 0.
 fn has_byte(circuit: &mut Circuit, remote: Literal, dlc: Nibble, byte: usize) -> Literal
     requires { byte < 8 }
     ensures { Makes circuit.old circuit.new (λ v. value v result ≡ nat_lt byte (byte_count (value v remote) (nibble v dlc))) }

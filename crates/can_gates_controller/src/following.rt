@@ -1,11 +1,11 @@
-//! Where in a frame a phase is.
+//! Whether a phase belongs to a frame.
 use can_gates::Literal;
 
-/// Where in a frame a controller is.
+/// Whether a controller is in the stuffed part of a frame, or in the rest of it.
 #[derive(Clone, Copy)]
 pub(crate) struct Within {
-    /// Whether its stuffed part goes on.
+    /// Whether it is in the stuffed part.
     pub(crate) part: Literal,
-    /// Whether that has ended, and the frame hasn't.
+    /// Whether it is between the stuffed part and the end of the frame.
     pub(crate) end: Literal,
 }

@@ -1,5 +1,4 @@
-//! The front of a frame as it is heard: a register for each place of its unstuffed levels. (Bosch CAN 2.0 part B,
-//! sections 3.2.1 and 6)
+//! What has been received of a frame: a register for each unstuffed bit. (Bosch CAN 2.0 part B, sections 3.2.1 and 6)
 ghost use Rattle.std.specs.Prelude.{◌≡◌, ◌<◌, ◌≤◌, ◌==◌, ◌&&◌, ◌||◌, ℕ, Bool, List, length, slice_index_or};
 ghost use Rattle.can_frame.specs.declared.level.Level.{Level};
 ghost use Rattle.can_frame.specs.Levels.{is_recessive};
@@ -17,16 +16,18 @@ use crate::heard::Heard;
 use can_gates::{Circuit, FALSE, Literal, constant};
 use can_gates_mac::{Part, StuffPlace, arbitrates, stuffing};
 
-/// How many places have a register: up to the last level of the data of the longest frame. The check sequence has none.
+/// How many bits have a register: to the end of the data field of the longest frame. Bits of the CRC sequence have
+/// none.
 const PLACES: usize = 103;
 
-/// How many unstuffed levels a standard frame without data has, its check sequence among them.
+/// How many unstuffed bits a standard frame without data has, with its CRC sequence.
 const STANDARD_LENGTH: u64 = 34;
 
-/// The same of an extended frame.
+/// How many an extended frame without data has.
 const EXTENDED_LENGTH: u64 = 54;
 
-/// The front with one more level, and what the level is to the run before it.
+/// Returns the received frame with one more level. Also returns whether that level is a stuff bit, and whether it
+/// repeats the last one.
 pub fn hear(circuit: &mut Circuit, heard: &Heard, seen: Literal) -> (Heard, StuffPlace)
     ensures { Makes circuit.old circuit.new (λ v. (front : FrontParts) (x : Level) → HoldsFront v heard.now front → front.run ≤ 5 → length front.unstuffed < 127 → value v seen ≡ is_recessive x → HearsFront v result.0 result.1 front x) }
 {
@@ -46,7 +47,7 @@ pub fn hear(circuit: &mut Circuit, heard: &Heard, seen: Literal) -> (Heard, Stuf
     (next, stuffing)
 }
 
-/// The levels, with one more at the place of this number.
+/// The levels, with one more at this index.
 fn written(
     circuit: &mut Circuit,
     levels: &[Literal; 103],
@@ -65,8 +66,8 @@ fn written(
     all
 }
 
-/// What the stuffed part's move reads, and the front behind the level that is seen: by the front, whether the next level of
-/// the sender's frame is recessive, and whether that frame is extended.
+/// Returns what the move of the stuffed part reads, and the received frame with the sampled level. `sent` is whether
+/// the next level of the transmitter's frame is recessive, `extended` whether that frame is extended.
 pub fn read(
     circuit: &mut Circuit,
     heard: &Heard,
@@ -89,7 +90,7 @@ pub fn read(
     (next, part)
 }
 
-/// Whether the stuffed part ends behind a front: it has its whole check sequence, and no stuff bit is due.
+/// Returns whether the stuffed part has ended: the CRC sequence is complete, and no stuff bit is due.
 pub fn ends(circuit: &mut Circuit, heard: &Heard) -> Literal
     ensures { Makes circuit.old circuit.new (λ v. (front : FrontParts) → HoldsFront v heard.now front → front.run ≤ 5 → value v result ≡ ends_part front) }
 {
@@ -99,7 +100,7 @@ pub fn ends(circuit: &mut Circuit, heard: &Heard) -> Literal
     circuit.and(whole, due.opposite())
 }
 
-/// How many unstuffed levels the frame has that begins with these.
+/// How many unstuffed bits the frame has that begins with these, with its CRC sequence.
 pub(crate) fn frame_length(circuit: &mut Circuit, levels: &[Literal; 103]) -> [Literal; 7]
     ensures { Makes circuit.old circuit.new (λ v. (u : List Level) → HoldsLevels v levels.now u → number v result ≡ frame_len u) }
 {

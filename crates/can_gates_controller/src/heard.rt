@@ -1,21 +1,21 @@
-//! The registers of the front of a frame.
+//! The registers of what has been received of a frame.
 ghost use Rattle.std.specs.Prelude.{◌≡◌, length};
 
 use can_gates::Literal;
 use can_gates_mac::Nibble;
 
-/// What is heard of a frame whose stuffed part goes on.
+/// What has been received of a frame so far.
 #[derive(Clone, Copy)]
 pub struct Heard {
-    /// Whether each unstuffed level is recessive, the start of frame first. Places that are not heard yet are not.
+    /// Whether each unstuffed bit is recessive, the start of frame first. Bits not yet received are 0.
     pub levels: [Literal; 103],
-    /// How many unstuffed levels were heard.
+    /// How many unstuffed bits were received.
     pub count: [Literal; 7],
-    /// Whether the last level is recessive, a stuff bit or not.
+    /// Whether the last level is recessive, be it a stuff bit or not.
     pub last: Literal,
-    /// How many levels in a row, up to it, equal it.
+    /// How many equal levels in a row end with the last one.
     pub run: Nibble,
-    /// The check sequence of the unstuffed levels, its first level first. Behind a whole frame that agrees nothing is left of it.
+    /// The CRC of the unstuffed bits, its first bit first. After a whole frame with the right CRC sequence it is 0.
     pub check: [Literal; 15],
     ghost width: { length count ≡ 7 },
 }

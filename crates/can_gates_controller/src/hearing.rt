@@ -1,4 +1,4 @@
-//! A bit time of a controller and of what it hears of a frame.
+//! A bit time of a controller and of what it has received of a frame.
 ghost use Rattle.std.specs.Prelude.{◌≡◌, ℕ, Bool, Option};
 ghost use Rattle.can_frame.specs.declared.level.Level.{Level};
 ghost use Rattle.can_frame.specs.Parts.{Parts};
@@ -15,7 +15,7 @@ use crate::seen::Seen;
 use can_gates::Circuit;
 use can_gates_mac::{Controller, Inputs, step};
 
-/// A bit time of a controller and of what it hears of a frame: what their registers take.
+/// Makes a bit time of a controller and of what it has received of a frame: returns the next values of their registers.
 pub fn step_hearing(
     circuit: &mut Circuit,
     held: &Controller,

@@ -1,4 +1,4 @@
-//! The levels of a frame, laid out from its fields. (Bosch CAN 2.0 part B, section 3.2.1)
+//! The bits of a frame, made from its fields. (Bosch CAN 2.0 part B, section 3.2.1)
 ghost use Rattle.std.specs.Prelude.{◌≡◌, ◌<◌, ℕ, if◌then◌else◌, length, slice_index_or};
 ghost use Rattle.can_wire.specs.Wire.{head};
 ghost use Rattle.can_gates.specs.Circuit.{value, Makes};
@@ -10,10 +10,10 @@ use crate::fields::{Fields, clear_behind};
 use crate::turning::turn_bytes;
 use can_gates::{Circuit, FALSE, Literal, TRUE, literal_at};
 
-/// How many levels a frame has up to the end of its data, at most.
+/// The most bits of a frame from the start of frame to the end of the data field.
 const PLACES: usize = 103;
 
-/// The levels of the frame that fields are, up to the end of its data.
+/// Returns the head of the frame with these fields: its bits from the start of frame to the end of the data field.
 pub fn levels_of(circuit: &mut Circuit, fields: &Fields) -> [Literal; 103]
     ensures { Makes circuit.old circuit.new (λ v. HoldsLevels v result (head (frame_in v fields.now))) }
 {
@@ -22,7 +22,7 @@ pub fn levels_of(circuit: &mut Circuit, fields: &Fields) -> [Literal; 103]
     lay_out(circuit, fields, &levels)
 }
 
-/// The levels by the format, where these are the levels of its bytes.
+/// The bits by the format, given those of the data field.
 fn lay_out(circuit: &mut Circuit, fields: &Fields, bytes: &[Literal; 64]) -> [Literal; 103]
     ensures { Makes circuit.old circuit.new (λ v. (p : ℕ) → p < 103 → value v (slice_index_or result p FALSE) ≡ (if value v fields.now.extended then value v (slice_index_or (extended_list fields.now bytes.now) p FALSE) else value v (slice_index_or (standard_list fields.now bytes.now) p FALSE))) }
 {
@@ -35,7 +35,7 @@ fn lay_out(circuit: &mut Circuit, fields: &Fields, bytes: &[Literal; 64]) -> [Li
     all
 }
 
-/// A level of a standard frame.
+/// A bit of a standard frame.
 fn standard_level(fields: &Fields, bytes: &[Literal; 64], place: usize) -> Literal
     ensures { result ≡ slice_index_or (standard_list fields.now bytes.now) place FALSE }
 {
@@ -48,7 +48,7 @@ fn standard_level(fields: &Fields, bytes: &[Literal; 64], place: usize) -> Liter
     level_behind(fields, bytes, place - 12)
 }
 
-/// A level of an extended frame: SRR and IDE stand behind the identifier's eleven highest bits.
+/// A bit of an extended frame: SRR and IDE follow the eleven highest bits of the identifier.
 fn extended_level(fields: &Fields, bytes: &[Literal; 64], place: usize) -> Literal
     ensures { result ≡ slice_index_or (extended_list fields.now bytes.now) place FALSE }
 {
@@ -67,7 +67,7 @@ fn extended_level(fields: &Fields, bytes: &[Literal; 64], place: usize) -> Liter
     level_behind(fields, bytes, place - 32)
 }
 
-/// A level from the RTR bit on: in a standard frame IDE and r0 follow it, in an extended one r1 and r0.
+/// A bit from the RTR bit on: in a standard frame IDE and r0 follow it, in an extended one r1 and r0.
 fn level_behind(fields: &Fields, bytes: &[Literal; 64], place: usize) -> Literal
     ensures { result ≡ slice_index_or (behind_list fields.now bytes.now) place FALSE }
 {

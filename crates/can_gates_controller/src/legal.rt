@@ -1,4 +1,4 @@
-//! What is so of the registers in each state that a run reaches: what a solver may assume of them.
+//! An invariant of the registers: true in each state that a run reaches, so that a solver may assume it.
 ghost use Rattle.std.specs.Prelude.{◌≡◌, ◌≤◌, ℕ, nat_le, Bool, true, false, List, length};
 ghost use Rattle.can_frame.specs.declared.level.Level.{Level};
 ghost use Rattle.can_wire.specs.Layout.{frame_len};
@@ -21,13 +21,13 @@ use crate::registers::Registers;
 use can_gates::{Circuit, FALSE, Literal, TRUE, constant};
 use can_gates_mac::{Controller, Counters, Wires};
 
-/// How many places of a front have a register.
+/// How many bits of a received frame have a register.
 const PLACES: usize = 103;
 
 /// One more than the highest TEC.
 const ABOVE_TEC: u64 = 264;
 
-/// Whether the registers are within what a controller's can be.
+/// Whether the values of the registers are within those of a controller.
 pub(crate) fn is_legal(circuit: &mut Circuit, held: &Registers) -> Literal
     ensures { Makes circuit.old circuit.new (λ v. (m : MacState) → HoldsAll v held.now m → value v result ≡ true) }
 {
@@ -46,7 +46,7 @@ pub(crate) fn is_legal(circuit: &mut Circuit, held: &Registers) -> Literal
     circuit.and(on, counted)
 }
 
-/// Whether the place is one of the phase.
+/// Whether the place is in the range of the phase.
 fn place_is_legal(circuit: &mut Circuit, held: &Controller) -> Literal
     ensures { Makes circuit.old circuit.new (λ v. (m : MacState) → IsMac m → Holds v held.now m → value v result ≡ true) }
 {
@@ -68,8 +68,7 @@ fn place_is_legal(circuit: &mut Circuit, held: &Controller) -> Literal
     circuit.select(&items, &number)
 }
 
-/// Whether what one phase alone has is 0 in the others: the last level and what isn't acknowledged but in a passive error flag,
-/// the first level behind an error flag but behind a flag.
+/// Whether `last` and `unacknowledged` are 0 except in a passive error flag, and `first` except after a flag.
 fn marks_are_legal(circuit: &mut Circuit, held: &Controller) -> Literal
     ensures { Makes circuit.old circuit.new (λ v. (m : MacState) → Holds v held.now m → value v result ≡ true) }
 {
@@ -87,8 +86,8 @@ fn marks_are_legal(circuit: &mut Circuit, held: &Controller) -> Literal
     circuit.select(&items, &number)
 }
 
-/// Whether no one is a sender who is idle, joining or off the bus, and no dominant level stands before the first one behind an error
-/// flag.
+/// Whether a controller that is idle, joining or bus-off is no transmitter, and no dominant level has come before the
+/// first level after an error flag.
 fn role_is_legal(circuit: &mut Circuit, held: &Controller) -> Literal
     ensures { Makes circuit.old circuit.new (λ v. (m : MacState) → IsSettled m.phase m.role → Holds v held.now m → value v result ≡ true) }
 {
@@ -106,7 +105,7 @@ fn role_is_legal(circuit: &mut Circuit, held: &Controller) -> Literal
     circuit.select(&items, &place)
 }
 
-/// Whether at most two own overload frames are asked for, and were used.
+/// Whether at most two own overload frames are requested, and at most two were sent since the last frame.
 fn wishes_are_legal(circuit: &mut Circuit, wires: Wires) -> Literal
     ensures { Makes circuit.old circuit.new (λ v. nibble v wires.pending ≤ 2 → nibble v wires.used ≤ 2 → value v result ≡ true) }
 {
@@ -115,8 +114,8 @@ fn wishes_are_legal(circuit: &mut Circuit, wires: Wires) -> Literal
     circuit.and(pending, used)
 }
 
-/// Whether TEC is in its range, is at least 256 exactly off the bus, and only there occurrences of eleven recessive levels
-/// are counted.
+/// Whether TEC is in its range, TEC is at least 256 exactly during bus-off, and the occurrences of eleven recessive
+/// levels are 0 otherwise.
 fn counters_are_legal(circuit: &mut Circuit, held: &Controller) -> Literal
     ensures { Makes circuit.old circuit.new (λ v. (m : MacState) → IsMac m → Holds v held.now m → value v result ≡ true) }
 {
@@ -137,7 +136,8 @@ fn counters_are_legal(circuit: &mut Circuit, held: &Controller) -> Literal
     circuit.and(fits, counts)
 }
 
-/// Whether what is heard of a frame fits: in its stuffed part a front that goes on, behind that a whole one.
+/// Whether the registers of a received frame are consistent: in its stuffed part a frame that goes on, after it a whole
+/// one.
 fn heard_is_legal(circuit: &mut Circuit, within: Within, heard: &Heard) -> Literal
     ensures { Makes circuit.old circuit.new (λ v. (p : MacPhase) → IsPhase p → ShowsWithin v within p → HoldsHeard v heard.now p → value v result ≡ true) }
 {
@@ -151,8 +151,8 @@ fn heard_is_legal(circuit: &mut Circuit, within: Within, heard: &Heard) -> Liter
     circuit.ite(within.part, part, behind)
 }
 
-/// Whether the front of a frame that has so many levels goes on: it has at least one level and at most these, a run of one to
-/// five, and its stuffed part hasn't ended.
+/// Whether a received frame that has `length` bits in all goes on: it has 1 to `length` bits so far, a run of 1 to 5,
+/// and its stuffed part has not ended.
 fn going_is_legal(circuit: &mut Circuit, heard: &Heard, length: &[Literal]) -> Literal
     ensures { Makes circuit.old circuit.new (λ v. (front : FrontParts) → IsOpen front → HoldsFront v heard.now front → number v length.now ≡ frame_len front.unstuffed → value v result ≡ true) }
 {
@@ -169,7 +169,7 @@ fn going_is_legal(circuit: &mut Circuit, heard: &Heard, length: &[Literal]) -> L
     circuit.and(fits, ended.opposite())
 }
 
-/// Whether no level is recessive that isn't heard yet.
+/// Whether no bit is recessive that has not been received.
 fn levels_are_legal(circuit: &mut Circuit, heard: &Heard) -> Literal
     ensures { Makes circuit.old circuit.new (λ v. (u : List Level) → HoldsLevels v heard.now.levels u → number v heard.now.count ≡ length u → value v result ≡ true) }
 {
@@ -185,7 +185,7 @@ fn levels_are_legal(circuit: &mut Circuit, heard: &Heard) -> Literal
     legal
 }
 
-/// Whether a controller with these counters is bus off.
+/// Whether a controller with these counters is bus-off.
 pub(crate) fn is_off(counters: &Counters) -> Literal
     ensures { (v : ℕ → Bool) → v 0 ≡ false → value v result ≡ nat_le 256 (number v counters.now.tec) }
 {

@@ -1,10 +1,10 @@
-//! Levels as words: a literal for each place.
+//! Levels as words: a literal for each.
 ghost use Rattle.std.specs.Prelude.{◌≡◌, ◌<◌, ℕ, Bool, if◌then◌else◌, length, slice_index_or};
 ghost use Rattle.can_gates.specs.Circuit.{value, Makes};
 
 use can_gates::{Circuit, FALSE, Literal, literal_at};
 
-/// The one level where the test holds, else the other one, at each place. Past the end no level is recessive.
+/// The first levels if the test is true, otherwise the second. Past their end levels are dominant.
 pub(crate) fn choose_levels<const N: usize>(
     circuit: &mut Circuit,
     test: Literal,

@@ -1,4 +1,4 @@
-//! The order in which a file has registers and what goes out.
+//! The order of registers and outputs in a file.
 ghost use Rattle.std.specs.Prelude.{◌≡◌, ◌<◌, ℕ, false, IfOk, length, slice_index_or};
 ghost use Rattle.can_gates_controller.specs.Listed.{wires_list, counters_list, heard_list, register_list, field_list, output_list};
 ghost use Rattle.can_gates_controller.specs.Stepped.{IsRegister};
@@ -11,10 +11,10 @@ use can_gates::{FALSE, Literal, Register, literal_at};
 use can_gates_mac::{Counters, Wires};
 use std::alloc::{AllocError, Global};
 
-/// How many places go out.
+/// How many bits the outputs have.
 const OUTPUTS: usize = 124;
 
-/// The register of this place.
+/// The register with this index.
 pub(crate) fn register_at(k: &Registers, place: usize) -> Literal
     requires { place < 277 }
     ensures { result ≡ slice_index_or (register_list k.now) place FALSE }
@@ -31,7 +31,7 @@ pub(crate) fn register_at(k: &Registers, place: usize) -> Literal
     literal_at(&k.own, place - 174)
 }
 
-/// That of a controller but for its counters.
+/// That of a controller without its counters.
 fn wire_at(k: Wires, place: usize) -> Literal
     ensures { result ≡ slice_index_or (wires_list k) place FALSE }
 {
@@ -74,7 +74,7 @@ fn counter_at(k: &Counters, place: usize) -> Literal
     literal_at(&k.occurrences, place - 17)
 }
 
-/// That of what is heard.
+/// That of what has been received.
 fn heard_at(k: &Heard, place: usize) -> Literal
     requires { place < 130 }
     ensures { result ≡ slice_index_or (heard_list k.now) place FALSE }
@@ -95,7 +95,7 @@ fn heard_at(k: &Heard, place: usize) -> Literal
     literal_at(&k.check, place - 115)
 }
 
-/// The literals of what goes out.
+/// The literals of the outputs.
 pub(crate) fn list_outputs(alloc: Global, k: &OutputPorts) -> Result<Vec<Literal>, AllocError>
     ensures { IfOk result (λ r. r.items ≡ output_list k.now) }
 {
@@ -106,7 +106,7 @@ pub(crate) fn list_outputs(alloc: Global, k: &OutputPorts) -> Result<Vec<Literal
     Ok(all)
 }
 
-/// The literal of this place of what goes out.
+/// The literal of the output with this index.
 fn output_at(k: &OutputPorts, place: usize) -> Literal
     requires { place < 124 }
     ensures { result ≡ slice_index_or (output_list k.now) place FALSE }
@@ -148,7 +148,7 @@ fn field_at(k: &Fields, place: usize) -> Literal
     literal_at(&k.bytes, place - 35)
 }
 
-/// The registers that take these literals, and start with 0.
+/// Registers with these next values, which start with 0.
 pub(crate) fn starting(alloc: Global, next: &[Literal]) -> Result<Vec<Register>, AllocError>
     ensures { IfOk result (λ r. (length r.items ≡ length next.now) × ((i : ℕ) → i < length next.now → IsRegister (slice_index_or r.items i (record { next = FALSE; starts = false })) (slice_index_or next.now i FALSE))) }
 {

@@ -1,4 +1,4 @@
-//! A controller as a circuit of its own.
+//! Makes a controller as a circuit of its own.
 ghost use Rattle.std.specs.Prelude.{◌≡◌, None, IfOk};
 ghost use Rattle.can_gates_controller.specs.Runs.{StartsZero, StartsIdle, Resets, IsController, RunsAlike, HasPorts};
 
@@ -9,11 +9,12 @@ use crate::stepping::step;
 use can_gates::{Circuit, CircuitFault};
 use std::alloc::Global;
 
-/// For how many gates there is room: a third more than there are.
+/// The capacity of the circuit, in gates: a third more than it has.
 const ROOM: u32 = 8192;
 
-/// A controller as a circuit, which has each of its gates. At first its registers are 0 and hold an idle one, and behind a reset
-/// an idle one or one that joins; in each step of any run it is can_mac's own.
+/// Returns a controller as a circuit that lacks no gate. Its registers start with 0, which is an idle controller. After
+/// a reset they hold an idle controller, or a joining one. In each step of each run its outputs are those of can_mac's
+/// controller.
 pub fn controller_circuit(alloc: Global) -> Result<Design, CircuitFault>
     ensures complete { IfOk result (λ d. d.circuit.lack ≡ None) }
     ensures zero { IfOk result (λ d. StartsZero d) }

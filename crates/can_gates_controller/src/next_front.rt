@@ -1,4 +1,4 @@
-//! The front that follows: one level more of a stuffed part, what was heard of it, or a first front.
+//! What has been received of a frame after a bit time: one level more, the same as before, or only a start of frame.
 ghost use Rattle.std.specs.Prelude.{◌≡◌, ℕ, Bool, false, Option};
 ghost use Rattle.can_frame.specs.declared.level.Level.{Level};
 ghost use Rattle.can_frame.specs.Parts.{Parts};
@@ -20,10 +20,10 @@ use crate::levels::choose_levels;
 use can_gates::{Circuit, FALSE, Literal, TRUE, constant};
 use can_gates_mac::Nibble;
 
-/// How many places of a front have a register.
+/// How many bits of a received frame have a register.
 const PLACES: usize = 103;
 
-/// Where in a frame the phase of this number is.
+/// Whether the phase with this number belongs to a frame.
 pub(crate) fn within(circuit: &mut Circuit, phase: Nibble) -> Within
     ensures { Makes circuit.old circuit.new (λ v. (p : MacPhase) → nibble v phase ≡ phase_number p → ShowsWithin v result p) }
 {
@@ -34,7 +34,7 @@ pub(crate) fn within(circuit: &mut Circuit, phase: Nibble) -> Within
     Within { part, end }
 }
 
-/// The registers of a first front.
+/// The registers after a start of frame.
 fn first_heard() -> Heard
     ensures { (v : ℕ → Bool) → v 0 ≡ false → HoldsFront v result first_front }
 {
@@ -47,7 +47,7 @@ fn first_heard() -> Heard
     }
 }
 
-/// The one front where the test holds, else the other one.
+/// The first registers if the test is true, otherwise the second.
 fn choose_heard(circuit: &mut Circuit, test: Literal, a: &Heard, b: &Heard) -> Heard
     ensures { Makes circuit.old circuit.new (λ v. IsEither v result (value v test) a.now b.now) }
 {
@@ -65,7 +65,8 @@ fn choose_heard(circuit: &mut Circuit, test: Literal, a: &Heard, b: &Heard) -> H
     }
 }
 
-/// What is heard behind a bit time: in a stuffed part the front with the level, behind it what it was, else a first front.
+/// What has been received after a bit time: in a stuffed part one level more; after it, in the same frame, what it was;
+/// otherwise a start of frame.
 pub(crate) fn front_behind(
     circuit: &mut Circuit,
     within: Within,

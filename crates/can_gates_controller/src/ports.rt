@@ -1,39 +1,39 @@
-//! What comes in and goes out, step by step.
+//! The inputs and outputs of a step.
 use crate::fields::Fields;
 use can_gates::Literal;
 use can_gates_mac::Nibble;
 
-/// What comes in.
+/// The inputs of a step.
 #[derive(Clone, Copy)]
 pub struct InputPorts {
-    /// Whether the registers take an idle controller, or one that joins, whatever else comes in.
+    /// Whether the registers take an idle or joining controller, whatever the other inputs are.
     pub reset: Literal,
-    /// Whether it joins.
+    /// Whether it is a joining one.
     pub joins: Literal,
-    /// Whether a bit time passes. Where none does, nothing changes.
+    /// Whether a bit time passes. If not, nothing changes.
     pub enable: Literal,
-    /// Whether the level that is sampled is recessive.
+    /// Whether the sampled level is recessive.
     pub bus: Literal,
-    /// Whether own overload frames are asked for, before the bit time.
+    /// Whether own overload frames are requested, before the bit time.
     pub hold: Literal,
-    /// The lower place of how many, 0 to 2. More are refused, and change nothing.
+    /// How many, 0 to 2: the lower bit. A request for 3 is refused, and changes nothing.
     pub wish_ones: Literal,
-    /// The higher one.
+    /// The higher bit.
     pub wish_twos: Literal,
-    /// Whether a frame waits.
+    /// Whether a frame is pending.
     pub waits: Literal,
     /// That frame.
     pub frame: Fields,
 }
 
-/// What goes out.
+/// The outputs of a step.
 #[derive(Clone, Copy)]
 pub struct OutputPorts {
     /// Whether the controller drives recessive.
     pub drive: Literal,
-    /// The number of what it tells. (can_gates_mac's `specs/Numbers.antt`)
+    /// The number of its event. (can_gates_mac's `specs/Numbers.antt`)
     pub told: Nibble,
-    /// The frame that it tells, where it tells of one.
+    /// The frame of the event, if it has one.
     pub frame: Fields,
     /// TEC.
     pub tec: [Literal; 9],
@@ -41,8 +41,8 @@ pub struct OutputPorts {
     pub rec: [Literal; 8],
     /// Whether one of them is at least 128.
     pub passive: Literal,
-    /// Whether the controller is bus off.
+    /// Whether the controller is bus-off.
     pub off: Literal,
-    /// What is true in every state that a run reaches.
+    /// An invariant: true in each state that a run reaches.
     pub legal: Literal,
 }

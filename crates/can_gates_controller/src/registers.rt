@@ -1,4 +1,4 @@
-//! All that registers hold of a controller, and what a bit time brings and makes.
+//! All registers of a controller, and the inputs and results of a bit time.
 use crate::heard::Heard;
 use can_gates::Literal;
 use can_gates_mac::Controller;
@@ -6,27 +6,27 @@ use can_gates_mac::Controller;
 /// A controller with the frame on the bus.
 #[derive(Clone, Copy)]
 pub struct Registers {
-    /// The controller but for its frames, with what a bit time has counted and told.
+    /// The controller without its frames, with the cause and the event of a bit time.
     pub controller: Controller,
-    /// What is heard of a frame.
+    /// What has been received of a frame.
     pub heard: Heard,
-    /// Whether each level of the sender's frame is recessive, up to the end of its data.
+    /// Whether each bit of the transmitter's frame is recessive, from the start of frame to the end of the data field.
     pub own: [Literal; 103],
 }
 
-/// A frame that waits.
+/// A pending frame.
 #[derive(Clone, Copy)]
 pub struct Offered {
-    /// Whether one waits.
+    /// Whether a frame is pending.
     pub waits: Literal,
-    /// Whether each of its levels is recessive, up to the end of its data.
+    /// Whether each of its bits is recessive, from the start of frame to the end of the data field.
     pub levels: [Literal; 103],
 }
 
-/// What a bit time makes.
+/// The results of a bit time.
 #[derive(Clone, Copy)]
 pub struct BitTime {
-    /// What the registers take.
+    /// The next values of the registers.
     pub next: Registers,
     /// Whether the controller drives recessive.
     pub recessive: Literal,

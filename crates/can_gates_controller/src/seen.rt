@@ -1,17 +1,17 @@
-//! What a controller reads of the wire, of what waits and of its own frame.
+//! What a controller reads of the bus, of the pending frame and of its own frame.
 use can_gates::Literal;
 
-/// What a bit time brings.
+/// The inputs of a bit time.
 #[derive(Clone, Copy)]
 pub struct Seen {
-    /// Whether a frame waits.
+    /// Whether a frame is pending.
     pub waits: Literal,
-    /// Whether the level that is seen is recessive.
+    /// Whether the sampled level is recessive.
     pub seen: Literal,
-    /// Whether the check sequence of the frame on the bus agrees, where its stuffed part has ended.
+    /// After the stuffed part of the frame on the bus, whether its CRC sequence is right.
     pub agrees: Literal,
-    /// Whether the next level of the sender's frame is recessive.
+    /// Whether the next level of the transmitter's frame is recessive.
     pub sent: Literal,
-    /// Whether the sender's frame is extended.
+    /// Whether the transmitter's frame is extended.
     pub extended: Literal,
 }

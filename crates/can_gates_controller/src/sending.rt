@@ -1,4 +1,4 @@
-//! The frame of a sender: what is sent next, and which frame is held. (Bosch CAN 2.0 part B, section 3.2.1)
+//! The frame of a transmitter: its next bit, and its format. (Bosch CAN 2.0 part B, section 3.2.1)
 ghost use Rattle.std.specs.Prelude.{◌≡◌, ◌<◌, ℕ, Bool, List, length, take};
 ghost use Rattle.can_frame.specs.Levels.{is_recessive};
 ghost use Rattle.can_frame.specs.Parts.{Parts, IsFrame};
@@ -12,11 +12,11 @@ use crate::front::frame_length;
 use crate::heard::Heard;
 use can_gates::{Circuit, Literal, constant};
 
-/// How many levels a check sequence has.
+/// How many bits a CRC sequence has.
 const CHECK_LENGTH: u64 = 15;
 
-/// The next level of a sender's frame, of which it has heard what it sent: by its head, and behind that by the running check
-/// sequence, whose highest place it is.
+/// The next bit of a transmitter's frame, if what it has received is what it has sent: up to the end of the data field
+/// from its registers, then the highest bit of the CRC register.
 pub(crate) fn next_sent(circuit: &mut Circuit, heard: &Heard, own: &[Literal; 103]) -> Literal
     ensures { Makes circuit.old circuit.new (λ v. (f : Parts) (front : FrontParts) → IsFrame f → HoldsLevels v own.now (head f) → HoldsFront v heard.now front → front.unstuffed ≡ take (length front.unstuffed) (unstuffed f) → value v result ≡ is_recessive (sent_level f (length front.unstuffed))) }
 {

@@ -10,28 +10,28 @@ use crate::registers::Registers;
 use can_gates::{FALSE, Literal};
 use can_gates_mac::{Controller, Counters, Nibble, Wires};
 
-/// The first signal of the frame that waits.
+/// The first signal of the pending frame.
 const FRAME: u32 = 9;
 
-/// How many places of a frame have a register.
+/// How many bits of a frame have a register.
 const PLACES: u32 = 103;
 
-/// The first signal of a register: of the controller but for its counters.
+/// The first signal of a register: of the controller without its counters.
 const WIRES: u32 = FRAME + 99;
 
 /// The first signal of a counter.
 const COUNTERS: u32 = WIRES + 20;
 
-/// The first signal of what is heard.
+/// The first signal of what has been received.
 const HEARD: u32 = COUNTERS + 24;
 
-/// The first signal of the sender's frame.
+/// The first signal of the transmitter's frame.
 const OWN: u32 = HEARD + PLACES + 27;
 
 /// How many signals are inputs or registers.
 pub(crate) const INPUTS: u32 = OWN + PLACES - 1;
 
-/// What comes in: an input each, in the order of their names.
+/// The inputs of a step: a circuit input each, in the order of their names.
 pub(crate) fn input_ports() -> InputPorts
     ensures { AreSignals 1 107 (input_list result) }
 {
@@ -49,7 +49,7 @@ pub(crate) fn input_ports() -> InputPorts
     }
 }
 
-/// The fields of the frame that waits.
+/// The fields of the pending frame.
 fn frame_ports() -> Fields
     ensures { AreSignals 9 99 (field_list result) }
 {
@@ -62,7 +62,7 @@ fn frame_ports() -> Fields
     }
 }
 
-/// The registers: an input each, in the order of their names.
+/// The registers: a circuit input each, in the order of their names.
 pub(crate) fn registers() -> Registers
     ensures { AreSignals 108 277 (register_list result) }
 {
@@ -99,7 +99,7 @@ fn counters() -> Counters
     }
 }
 
-/// Those of what is heard.
+/// Those of what has been received.
 fn heard() -> Heard
     ensures { AreSignals 152 130 (heard_list result) }
 {
@@ -123,7 +123,7 @@ fn signal(signal: u32) -> Literal
     }
 }
 
-/// Four signals, of which this is the first.
+/// Four signals, the first of which is this one.
 fn nibble(first: u32) -> Nibble
     requires { first < 2 ^ 31 }
     ensures { AreSignals first 4 (nibble_before result []) }
@@ -136,7 +136,7 @@ fn nibble(first: u32) -> Nibble
     }
 }
 
-/// So many signals, of which this is the first.
+/// N signals, the first of which is this one.
 fn signals<const N: usize>(first: u32) -> [Literal; N]
     requires { first + N < 2 ^ 32 }
     ensures places { length result ≡ N }

@@ -18,13 +18,13 @@ use crate::whole::bit_time;
 use can_gates::{Circuit, FALSE, Literal};
 use can_gates_mac::{Nibble, asking, is_passive};
 
-/// One more than the most own overload frames that can be asked for.
+/// One more than the most own overload frames of a request.
 const ABOVE_WISHES: u8 = 3;
 
 /// How many registers there are.
 const REGISTERS: usize = 277;
 
-/// A step: what the registers take, in their order, and what goes out.
+/// A step: the next values of the registers, in their order, and the outputs.
 pub(crate) fn step(
     circuit: &mut Circuit,
     held: &Registers,
@@ -45,7 +45,7 @@ pub(crate) fn step(
     (taken, outputs)
 }
 
-/// The registers, with the own overload frames that are asked for.
+/// The registers, with the requested own overload frames.
 fn with_wish(circuit: &mut Circuit, held: &Registers, inputs: &InputPorts) -> Registers
     ensures { Makes circuit.old circuit.new (λ v. (m : MacState) → HoldsAll v held.now m → HoldsAll v result (asked (step_in v inputs.now).wish m)) }
 {
@@ -64,7 +64,8 @@ fn with_wish(circuit: &mut Circuit, held: &Registers, inputs: &InputPorts) -> Re
     }
 }
 
-/// What goes out, where these registers are held, and with own overload frames these; and this is the bit time, if one passes.
+/// The outputs, given the registers, the registers with the requested overload frames (`wished`), and the bit time of
+/// these (`made`).
 fn show(
     circuit: &mut Circuit,
     held: &Registers,
@@ -93,8 +94,8 @@ fn show(
     }
 }
 
-/// What the registers take: at a reset 0, but the first one whether the controller joins; else what a bit time makes, or where
-/// none passes what they hold.
+/// The next values of the registers. At a reset they are 0, except that the first is whether the controller joins.
+/// Otherwise they are those after the bit time, or the present ones if none passes.
 fn take(
     circuit: &mut Circuit,
     inputs: &InputPorts,
@@ -110,7 +111,7 @@ fn take(
     merge(circuit, passes, next, rests, held, joins)
 }
 
-/// The one level where a first test holds, the other one where a second does, at the first place a third.
+/// The levels of `next` if `passes` is true, those of `held` if `rests` is, and the first one also if `joins` is.
 fn merge(
     circuit: &mut Circuit,
     passes: Literal,
@@ -132,7 +133,7 @@ fn merge(
     all
 }
 
-/// A literal at the first place, and none at others.
+/// The literal at index 0, [`FALSE`] at others.
 fn at_first(place: usize, literal: Literal) -> Literal
     ensures { (v : ℕ → Bool) → v 0 ≡ false → value v result ≡ (place == 0 && value v literal) }
 {

@@ -1,4 +1,4 @@
-//! The fields of a frame, read from its levels. (Bosch CAN 2.0 part B, section 3.2.1)
+//! The fields of a frame, read from its bits. (Bosch CAN 2.0 part B, section 3.2.1)
 ghost use Rattle.std.specs.Prelude.{◌≡◌, ◌<◌, if◌then◌else◌, List, Option, Some, length, slice_index_or};
 ghost use Rattle.can_frame.specs.declared.level.Level.{Level};
 ghost use Rattle.can_frame.specs.Parts.{Parts};
@@ -19,13 +19,14 @@ use crate::turning::turn_bytes;
 use can_gates::{Circuit, FALSE, Literal, literal_at};
 use can_gates_mac::Nibble;
 
-/// How many of the places of a frame stand behind its identifier.
+/// How many bits with registers follow the identifier of a frame.
 const BEHIND: usize = 71;
 
 /// How many bits an extended identifier has.
 const IDENTIFIER: usize = 29;
 
-/// The frame of a bit time in which a controller tells that one is sent or received: the sender's, or what was heard.
+/// Returns the frame of a bit time in which a controller reports a transmitted or received one: that of the
+/// transmitter, or the received one.
 pub fn told_frame(circuit: &mut Circuit, held: &Registers) -> Fields
     ensures { Makes circuit.old circuit.new (λ v. (m : MacState) (waiting : Option Parts) (x : Level) (f : Parts) → HoldsAll v held.now m → frame_told (mac_step m waiting x).1 ≡ Some f → HoldsFields v result f) }
 {
@@ -34,7 +35,7 @@ pub fn told_frame(circuit: &mut Circuit, held: &Registers) -> Fields
     fields_of(circuit, &levels)
 }
 
-/// The fields of the frame that begins with these levels.
+/// Returns the fields of the frame that begins with these bits.
 pub fn fields_of(circuit: &mut Circuit, levels: &[Literal; 103]) -> Fields
     ensures { Makes circuit.old circuit.new (λ v. (u : List Level) → HoldsLevels v levels.now u → HoldsFields v result (frame_of u)) }
 {
@@ -60,7 +61,7 @@ pub fn fields_of(circuit: &mut Circuit, levels: &[Literal; 103]) -> Fields
     }
 }
 
-/// The identifier of the frame that begins with these levels: in an extended one its eleven highest bits stand before the others.
+/// The identifier of the frame that begins with these bits: in an extended one the eleven highest bits come first.
 fn identifier_of(circuit: &mut Circuit, extended: Literal, levels: &[Literal; 103]) -> [Literal; 29]
     ensures places { length result ≡ 29 }
     ensures number { Makes circuit.old circuit.new (λ v. number v result ≡ (if value v extended then number v (long_list levels.now) else number v (short_list levels.now))) }
@@ -74,7 +75,7 @@ fn identifier_of(circuit: &mut Circuit, extended: Literal, levels: &[Literal; 10
     word
 }
 
-/// A bit of an extended frame's identifier, of which the lowest is bit 0.
+/// A bit of an extended frame's identifier; the lowest is bit 0.
 fn long_bit(levels: &[Literal; 103], place: usize) -> Literal
     requires { place < 29 }
     ensures { result ≡ slice_index_or (long_list levels.now) place FALSE }

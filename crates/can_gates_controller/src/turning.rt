@@ -1,10 +1,10 @@
-//! Bytes in the other order: a word has its lowest place first, on the bus the highest goes first.
+//! Bytes in reverse bit order: a word has its lowest bit first, on the bus the highest is sent first.
 ghost use Rattle.std.specs.Prelude.{◌≡◌, ◌≤◌, drop};
 ghost use Rattle.can_gates_controller.specs.Laying.{turned_bytes};
 
 use can_gates::{FALSE, Literal, literal_at};
 
-/// How many places the data have.
+/// How many bits the data have.
 const PLACES: usize = 64;
 
 /// The bytes of data from this literal on, in each the last literal first.

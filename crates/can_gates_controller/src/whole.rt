@@ -22,7 +22,8 @@ use crate::sending::{is_extended, next_sent};
 use can_gates::{Circuit, FALSE, Literal};
 use can_gates_mac::{Sends, drive};
 
-/// A bit time of a controller with the frame on the bus: what its registers take, what it drives, and what it tells.
+/// Makes a bit time of a controller with the frame on the bus: returns the next values of its registers, the driven
+/// level, and the event.
 pub fn bit_time(
     circuit: &mut Circuit,
     held: &Registers,
@@ -70,7 +71,7 @@ fn reads(circuit: &mut Circuit, held: &Registers, waits: Literal) -> Sends
     }
 }
 
-/// The sender's frame behind a bit time: within a frame what it was, else the one that waits.
+/// The transmitter's frame after a bit time: within a frame what it was, otherwise the pending one.
 fn next_own(
     circuit: &mut Circuit,
     within: Within,

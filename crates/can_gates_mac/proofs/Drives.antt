@@ -80,7 +80,7 @@ same_is Recessive Recessive = refl
 pub repeats_is : (x l : Level) (d r : Bool) → d ≡ differ (is_recessive x) (is_recessive l) → r ≡ not d → r ≡ same x l
 repeats_is x l d r e f = f ∙ rw e (same_is x l)
 
--- the run behind a level
+-- the run after a level
 run_is : (front : FrontParts) (x : Level) (b : Bool) (next made : ℕ) → (front.run == 5) ≡ b → next ≡ front.run + 1 → made ≡ (if not b && same x front.last then next else 1) → made ≡ (heard_level front x).run
 run_is front x true next made at is e = e ∙ ap (λ (f : FrontParts). f.run) (sym (cond-true (front.run == 5) (record { unstuffed = front.unstuffed; last = x; run = 1 }) (record { unstuffed = front.unstuffed ++ x ∷ []; last = x; run = run_after front.last front.run x }) at))
 run_is front x false next made at is e = e ∙ rw is refl ∙ ap (λ (f : FrontParts). f.run) (sym (cond-false (front.run == 5) (record { unstuffed = front.unstuffed; last = x; run = 1 }) (record { unstuffed = front.unstuffed ++ x ∷ []; last = x; run = run_after front.last front.run x }) at))

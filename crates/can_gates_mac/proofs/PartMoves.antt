@@ -20,7 +20,7 @@ use Rattle.can_gates_mac.specs.Numbers.{Numbers, numbers, is_sender}
 use Rattle.can_gates_mac.specs.Sensed.{going}
 use Rattle.can_gates_mac.proofs.PhaseMoves.{stance}
 
--- the machine's move, over what it reads of the front h behind this level
+-- the machine's move, as a function of what it reads of the front h after this level
 abbrev hears : Stance → FrontParts → Bool → MacMove
 hears s h ends = goes s (if ends then CrcDelimiter (reading_of h.unstuffed) else StuffedPart h)
 

@@ -24,7 +24,7 @@ row : (b : Bool) (w rest : Numbers) (p q : MacMove) → w ≡ numbers p → rest
 row true w rest p q e f = e
 row false w rest p q e f = f
 
--- the same, where the first is only right if it is taken
+-- the same, if the first is only right when it is taken
 row_where : (b : Bool) (w rest : Numbers) (p q : MacMove) → (b ≡ true → w ≡ numbers p) → rest ≡ numbers q → (if b then w else rest) ≡ numbers (if b then p else q)
 row_where true w rest p q e f = e refl
 row_where false w rest p q e f = f
@@ -98,7 +98,7 @@ passive_flag_rows s Recessive n true Recessive w1 w2 w3 w4 e1 e2 e3 e4 = ends_fl
 passive_flag_rows s Recessive n false Dominant w1 w2 w3 w4 e1 e2 e3 e4 = ends_flag s (nat_lt 1 6) (PassiveFlag Dominant 1 false) (AfterFlag true 0) None _ _ e2 e4
 passive_flag_rows s Recessive n false Recessive w1 w2 w3 w4 e1 e2 e3 e4 = ends_flag s (nat_lt (n + 1) 6) (PassiveFlag Recessive (n + 1) false) (AfterFlag true 0) None _ _ e2 e4
 
--- what a dominant level behind a flag counts
+-- the cause of a dominant level after a flag
 dominant_rows : (s : Stance) (c1 c2 : Option Cause) (b : Bool) (n : ℕ) (w1 w2 : Numbers) → w1 ≡ numbers (record (goes s (AfterFlag false (n + 1))) { cause = c1 }) → w2 ≡ numbers (record (goes s (AfterFlag false 0)) { cause = c2 }) → (if b then w1 else w2) ≡ numbers (record (goes s (AfterFlag false (if b then n + 1 else 0))) { cause = if b then c1 else c2 })
 dominant_rows s c1 c2 true n w1 w2 e f = e
 dominant_rows s c1 c2 false n w1 w2 e f = f

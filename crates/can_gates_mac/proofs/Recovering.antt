@@ -23,7 +23,7 @@ not_yet n h = grind (arith, h)
 now_128 : (n : ℕ) → n ≡ 128 → nat_le 128 n ≡ true
 now_128 n h = rw h refl
 
--- where this is what a level makes of them, and bus off doesn't end
+-- if this is the state after a level, and bus-off does not end
 goes_on : (c d : ConfineParts) (x : Level) → is_bus_off c ≡ true → after_level x c ≡ d → d.occurrences < 128 → (recovered x c ≡ d) × (ends_bus_off x c ≡ false)
 goes_on c d x off is h = (rw (off, is, not_yet d.occurrences h) refl, rw (off, is, not_yet d.occurrences h) refl)
 

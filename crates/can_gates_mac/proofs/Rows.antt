@@ -1,5 +1,5 @@
--- The numbers that registers take, computed on controllers and levels whose outcome is worked out by hand.
--- (Bosch CAN 2.0 part B, sections 3.2.3 to 3.2.5 and 8)
+-- Hand-computed test vectors: the next values of registers, for controllers and levels. (Bosch CAN 2.0 part B, sections
+-- 3.2.3 to 3.2.5 and 8)
 use Rattle.std.proofs.Common.{◌≡◌, ℕ, Bool, true, false, cond, eqb, None, refl}
 use Rattle.can_frame.specs.declared.level.Level.{Level}
 use Rattle.can_frame.specs.declared.level.Level.TheVariants.{Dominant, Recessive}
@@ -13,11 +13,11 @@ use Rattle.can_gates_mac.specs.Nibbles.{nibble}
 use Rattle.can_gates_mac.specs.Numbers.{Numbers}
 use Rattle.can_gates_mac.specs.Stepping.{state_numbers}
 
--- the numbers behind a level that this controller sees while nothing waits
+-- the numbers after a level that this controller samples while no frame is pending
 abbrev behind : MacState → Level → Numbers
 behind m x = state_numbers (mac_step m None x).0 (mac_step m None x).1
 
--- a phase and a place of a receiver or a sender, and what is told
+-- a phase and a place of a receiver or a transmitter, and the event
 abbrev row : ℕ → ℕ → Bool → ℕ → Numbers
 row phase place sends event = record { phase = phase; place = place; last = false; unacknowledged = false; first = false; sender = sends; pending = 0; used = 0; cause = 0; event = event }
 
@@ -53,7 +53,8 @@ joined : behind (receiver (Joining 10)) Recessive ≡ row 0 0 false 0
 unfolding mac_step
 joined = refl
 
--- a sender's bit error in the CRC delimiter: its flag is active at a TEC of 127, passive at 128, and at 248 it goes off
+-- a transmitter's bit error in the CRC delimiter: its flag is active at a TEC of 127, passive at 128, and at 248 it
+-- becomes bus-off
 active_at_127 : behind (with_tec 127 (sender (CrcDelimiter read_001))) Dominant ≡ row 7 0 true 4
 unfolding mac_step
 active_at_127 = refl

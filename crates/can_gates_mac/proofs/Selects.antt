@@ -1,4 +1,4 @@
--- What stands at the place of a list that a number tells, chosen half by half.
+-- The element of a list at an index that is a number, chosen half by half.
 use Rattle.std.specs.Prelude.{ℕ, suc, ◌≡◌, ◌+◌, ◌*◌, ◌^◌, ◌<◌, ◌≤◌, Bool, true, false, if◌then◌else◌, List, length, take, drop, get_or, refl}
 use Rattle.std.proofs.Common.{arith, sym, ◌∙◌, ap}
 use Rattle.std.proofs.lemmas.List.{get_or_past, get_or-drop, get_or-take, take_all}

@@ -17,7 +17,7 @@ unfolding shown
 chosen_wires v true a b r e1 e2 e3 e4 e5 e6 e7 e8 e9 e10 = same_numbers v r (shown v a) e1 e2 e3 e4 e5 e6 e7 e8 e9 e10
 chosen_wires v false a b r e1 e2 e3 e4 e5 e6 e7 e8 e9 e10 = same_numbers v r (shown v b) e1 e2 e3 e4 e5 e6 e7 e8 e9 e10
 
--- the first row is taken where its test holds, else one behind it
+-- the first row is taken if its test is true; otherwise one after it
 pub listed_first : (v : ℕ → Bool) (rows : List Row) (d : Row) (test : Bool) (otherwise rest made : Numbers) → 0 < length rows → test ≡ (value v (get_or rows 0 d).0 && value v (get_or rows 0 d).1) → rest ≡ listed v (drop 1 rows) otherwise → made ≡ cond test (shown v (get_or rows 0 d).2) rest → made ≡ listed v rows otherwise
 listed_first v [] d test otherwise rest made h tests rests is = absurd (omega (arith, h))
 listed_first v (r ∷ rows) d test otherwise rest made h tests rests is = is ∙ rw (tests, rests) refl

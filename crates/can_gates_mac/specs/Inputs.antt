@@ -15,11 +15,11 @@ use Rattle.can_gates.specs.Circuit.{value}
 use Rattle.can_gates_mac.specs.declared.wires.Part.{Part}
 use Rattle.can_gates_mac.specs.Numbers.{reading_in}
 
--- behind the stuffed part of a frame this tells whether its check sequence agrees
+-- after the stuffed part of a frame, this is whether its CRC sequence is right
 abbrev pub TellsReading : MacPhase → Bool → Type 0
 TellsReading p agrees = (r : Reading) → reading_in p ≡ Some r → agrees ≡ r.agrees
 
--- the part's literals are those of this front of a frame at a controller of this role, where this level is seen
+-- the part's literals are those of a frame received so far, with this role of the controller and this sampled level
 pub record ReadsPart (v : ℕ → Bool) (k : Part) (role : Role) (front : FrontParts) (x : Level) : Type 0 where
   pub due : value v k.due ≡ (front.run == 5)
   pub repeats : value v k.repeats ≡ same x front.last
@@ -27,6 +27,6 @@ pub record ReadsPart (v : ℕ → Bool) (k : Part) (role : Role) (front : FrontP
   pub sent : (f : Parts) → role ≡ Sender f → value v k.sent ≡ is_recessive (sent_level f (length front.unstuffed))
   pub ends : value v k.ends ≡ ends_part (heard_level front x)
 
--- in the stuffed part of a frame the part's literals are those of its front
+-- in the stuffed part of a frame, the part's literals are those of the frame received so far
 abbrev pub IsPartIn : (ℕ → Bool) → Part → Role → MacPhase → Level → Type 0
 IsPartIn v k role p x = (front : FrontParts) → p ≡ StuffedPart front → ReadsPart v k role front x

@@ -1,4 +1,4 @@
--- The number below 16 that four literals are.
+-- The number below 16 of four literals.
 use Rattle.std.specs.Prelude.{ℕ, Bool, [], ◌∷◌}
 use Rattle.can_gates.specs.Words.{number}
 use Rattle.can_gates_mac.specs.declared.nibble.Nibble.{Nibble}

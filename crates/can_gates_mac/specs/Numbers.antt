@@ -1,5 +1,4 @@
--- The numbers by which a circuit's registers hold a controller: of phases and their places, of what is counted, and of
--- what is told.
+-- The numbers with which a circuit's registers hold a controller: of phases and places, of causes, and of events.
 use Rattle.std.specs.Prelude.{ℕ, Bool, true, false, Option, Some, None}
 use Rattle.can_frame.specs.Levels.{is_recessive}
 use Rattle.can_frame.specs.Parts.{Parts}
@@ -14,8 +13,8 @@ use Rattle.can_mac.specs.Moves.{MacMove}
 
 -- Phases.
 
--- the phase's own number; the place in it, or how many levels in a row it has counted; whether the last level in a passive
--- flag was recessive; whether its sender has no acknowledgement; whether the next level is the first behind an error flag
+-- the phase's own number; the place in it, or how many levels in a row it has counted; whether the last level in a passive error flag was recessive;
+-- whether the flag is that of a transmitter without acknowledgment; whether the next level is the first after an error flag
 pub record PhaseNumbers : Type 0 where
   pub phase : ℕ
   pub place : ℕ
@@ -23,9 +22,11 @@ pub record PhaseNumbers : Type 0 where
   pub unacknowledged : Bool
   pub first : Bool
 
+-- a phase that uses only its number and its place
 abbrev pub at_place : ℕ → ℕ → PhaseNumbers
 at_place phase place = record { phase = phase; place = place; last = false; unacknowledged = false; first = false }
 
+-- the numbers of a phase
 abbrev pub phase_numbers : MacPhase → PhaseNumbers
 phase_numbers Idle = at_place 0 0
 phase_numbers (Joining row) = at_place 1 row
@@ -43,6 +44,7 @@ phase_numbers (Intermission place) = at_place 12 place
 phase_numbers (Suspend place) = at_place 13 place
 phase_numbers BusOff = at_place 14 0
 
+-- each of them by itself
 abbrev pub phase_number : MacPhase → ℕ
 phase_number p = (phase_numbers p).phase
 
@@ -58,7 +60,7 @@ unacknowledged_of p = (phase_numbers p).unacknowledged
 abbrev pub is_first : MacPhase → Bool
 is_first p = (phase_numbers p).first
 
--- what the stuffed part has told, where the phase is behind it in a frame
+-- the reading of the stuffed part, in the later phases of a frame
 abbrev pub reading_in : MacPhase → Option Reading
 reading_in (CrcDelimiter r) = Some r
 reading_in (AckSlot r) = Some r
@@ -76,13 +78,15 @@ reading_in (Intermission place) = None
 reading_in (Suspend place) = None
 reading_in BusOff = None
 
+-- a frame is pending
 abbrev pub is_waiting : Option Parts → Bool
 is_waiting None = false
 is_waiting (Some f) = true
 
--- What is counted, and what is told.
+-- Causes and events.
 
--- by 1 or by 8 at a receiver, by 8 at a sender, and the two of a frame
+-- the number of a cause: an error of a receiver counts 1 or 8, one of a transmitter 8; then a frame sent, and a frame
+-- received
 abbrev pub cause_number : Option Cause → ℕ
 cause_number None = 0
 cause_number (Some ReceiverError) = 1
@@ -98,7 +102,7 @@ cause_number (Some FrameReceived) = 5
 
 -- Moves.
 
--- a controller but for its counters and frames, with what is counted and told
+-- a controller without its counters and frames, with cause and event
 pub record Numbers : Type 0 where
   pub phase : ℕ
   pub place : ℕ
@@ -111,6 +115,7 @@ pub record Numbers : Type 0 where
   pub cause : ℕ
   pub event : ℕ
 
+-- the numbers of a move
 abbrev pub numbers : MacMove → Numbers
 numbers m = record {
   phase = phase_number m.phase;

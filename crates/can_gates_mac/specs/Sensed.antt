@@ -1,4 +1,4 @@
--- What the moves read, and the numbers of a phase that they go to.
+-- What the moves read, and the numbers of the phase after a move.
 use Rattle.std.specs.Prelude.{ℕ, ◌≡◌, ◌+◌, ◌<◌, ◌≤◌, nat_lt, Bool, false, not, ◌&&◌, if◌then◌else◌, Option}
 use Rattle.can_frame.specs.declared.level.Level.{Level}
 use Rattle.can_frame.specs.Levels.{is_recessive}
@@ -14,7 +14,7 @@ use Rattle.can_gates_mac.specs.Nibbles.{nibble}
 use Rattle.can_gates_mac.specs.Numbers.{Numbers, place_number, last_recessive, unacknowledged_of, is_first, is_sender, is_waiting}
 use Rattle.can_gates_mac.specs.Inputs.{TellsReading}
 
--- only the phase changes: a phase of these two numbers
+-- only the phase changes, to these two numbers, with this cause and event
 abbrev pub going : Stance → ℕ → ℕ → ℕ → ℕ → Numbers
 going s phase place cause event = record {
   phase = phase;
@@ -29,11 +29,11 @@ going s phase place cause event = record {
   event = event;
 }
 
--- how many equal levels in a row a passive flag has, with this one
+-- how many equal levels in a row a passive error flag has, with this one
 abbrev pub run_with : MacPhase → Level → ℕ
 run_with p x = if differ (last_recessive p) (is_recessive x) then 1 else place_number p + 1
 
--- how a place compares
+-- the comparisons of place n
 pub record IsPlaced (v : ℕ → Bool) (k : Places) (n : ℕ) : Type 0 where
   pub below_2 : value v k.below_2 ≡ nat_lt n 2
   pub below_5 : value v k.below_5 ≡ nat_lt n 5
@@ -42,7 +42,7 @@ pub record IsPlaced (v : ℕ → Bool) (k : Places) (n : ℕ) : Type 0 where
   pub below_10 : value v k.below_10 ≡ nat_lt n 10
   pub next : n < 15 → nibble v k.next ≡ n + 1
 
--- registers and inputs are those of a controller of this stance in this phase, where this frame waits and this level is seen
+-- registers and inputs are those of a controller with this stance in this phase, with this pending frame and this sampled level
 pub record IsNow (v : ℕ → Bool) (k : Now) (s : Stance) (p : MacPhase) (waiting : Option Parts) (x : Level) : Type 0 where
   pub place : nibble v k.place ≡ place_number p
   pub small : place_number p < 15
@@ -59,7 +59,7 @@ pub record IsNow (v : ℕ → Bool) (k : Now) (s : Stance) (p : MacPhase) (waiti
   pub seen : value v k.seen ≡ is_recessive x
   pub agrees : TellsReading p (value v k.agrees)
 
--- the senses are those of a controller of this stance in this phase, where this frame waits and this level is seen
+-- the senses are those of a controller with this stance in this phase, with this pending frame and this sampled level
 pub record IsSensed (v : ℕ → Bool) (k : Senses) (s : Stance) (p : MacPhase) (waiting : Option Parts) (x : Level) : Type 0 where
   pub never : v 0 ≡ false
   pub passive : value v k.passive ≡ s.passive
@@ -88,6 +88,7 @@ pub record IsSensed (v : ℕ → Bool) (k : Senses) (s : Stance) (p : MacPhase) 
   pub run_below_6 : value v k.run_below_6 ≡ nat_lt (run_with p x) 6
   pub first : value v k.first ≡ (not (is_sender s.role) && is_first p)
 
--- in each assignment in which the senses are those of a controller of a stance in a phase, where a level is seen
+-- this holds in each assignment in which the senses are those of a controller with a stance in a phase, and of a
+-- sampled level
 abbrev pub WhereSensed : Senses → ((ℕ → Bool) → Stance → MacPhase → Level → Type 0) → Type 0
 WhereSensed k P = (v : ℕ → Bool) (s : Stance) (p : MacPhase) (waiting : Option Parts) (x : Level) → IsSensed v k s p waiting x → P v s p x

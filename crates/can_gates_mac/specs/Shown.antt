@@ -1,4 +1,4 @@
--- The numbers that wires are.
+-- The numbers of wires.
 use Rattle.std.specs.Prelude.{ℕ, Bool, ◌&&◌, if◌then◌else◌, List, [], ◌∷◌}
 use Rattle.can_gates.specs.Circuit.{value}
 use Rattle.can_gates_mac.specs.declared.wires.Wires.{Wires}
@@ -20,7 +20,7 @@ shown v w = record {
   event = nibble v w.event;
 }
 
--- the first row whose two literals are true, else this
+-- those of the first row whose two literals are true; otherwise the others
 abbrev pub listed : (ℕ → Bool) → List Row → Numbers → Numbers
 listed v [] otherwise = otherwise
 listed v (r ∷ rows) otherwise = if value v r.0 && value v r.1 then shown v r.2 else listed v rows otherwise

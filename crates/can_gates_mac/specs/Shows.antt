@@ -15,11 +15,11 @@ use Rattle.can_gates_mac.specs.Shown.{shown}
 use Rattle.can_gates_mac.specs.Inputs.{ReadsPart}
 use Rattle.can_gates_mac.specs.Sensed.{IsSensed}
 
--- the wires are the move from this phase, whatever the controller's stance, the frame that waits and the level are
+-- the wires are the move from this phase, for any stance of the controller, any pending frame and any level
 abbrev pub ShowsMove : (ℕ → Bool) → Senses → Wires → MacPhase → Type 0
 ShowsMove v k w p = (s : Stance) (waiting : Option Parts) (x : Level) → IsSensed v k s p waiting x → shown v w ≡ numbers (move s p waiting x)
 
--- the wires are the move from the stuffed part
+-- the wires are the move from the stuffed part, for any frame received so far
 abbrev pub ShowsPart : (ℕ → Bool) → Senses → Part → Wires → Type 0
 ShowsPart v k part w =
     (s : Stance) (front : FrontParts) (waiting : Option Parts) (x : Level) →

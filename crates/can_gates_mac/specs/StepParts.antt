@@ -1,4 +1,4 @@
--- A choice between two controllers, and a level off the bus.
+-- A choice between two controllers, and a level during bus-off.
 use Rattle.std.specs.Prelude.{ℕ, ◌≡◌, Bool, if◌then◌else◌, List}
 use Rattle.can_frame.specs.declared.level.Level.{Level}
 use Rattle.can_fault.specs.Counters.{ConfineParts}
@@ -11,14 +11,14 @@ use Rattle.can_gates_mac.specs.declared.registers.Controller.{Controller}
 use Rattle.can_gates_mac.specs.Nibbles.{nibble}
 use Rattle.can_gates_mac.specs.Shown.{shown}
 
--- the one controller, or the other
+-- the first controller if the test is true, otherwise the second
 pub record IsChosen (v : ℕ → Bool) (k : Controller) (test : Bool) (a b : Controller) : Type 0 where
   pub wires : shown v k.wires ≡ (if test then shown v a.wires else shown v b.wires)
   pub tec : number v k.counters.tec ≡ (if test then number v a.counters.tec else number v b.counters.tec)
   pub rec : number v k.counters.rec ≡ (if test then number v a.counters.rec else number v b.counters.rec)
   pub occurrences : number v k.counters.occurrences ≡ (if test then number v a.counters.occurrences else number v b.counters.occurrences)
 
--- a level off the bus
+-- recovery after a level during bus-off
 pub record Recovers (v : ℕ → Bool) (row : Nibble) (occurrences : List Literal) (end : Literal) (c : ConfineParts) (x : Level) : Type 0 where
   pub in_row : nibble v row ≡ (recovered x c).row
   pub occurred : number v occurrences ≡ (recovered x c).occurrences

@@ -24,7 +24,7 @@ use crate::sensing::compare;
 use crate::wires::{Inputs, Now, Wires};
 use can_gates::{Circuit, FALSE, Literal};
 
-/// A bit time of a controller: what its registers take, and what it tells.
+/// Makes one bit time of a controller: returns the next values of its registers, and the event.
 pub fn step(circuit: &mut Circuit, held: &Controller, inputs: &Inputs) -> Controller
     ensures { Makes circuit.old circuit.new (λ v. (m : MacState) (waiting : Option Parts) (x : Level) → IsMac m → IsFrameOrNone waiting → Holds v held.now m → IsInput v inputs.now m waiting x → IsStep v result (mac_step m waiting x)) }
 {
@@ -51,7 +51,7 @@ pub fn step(circuit: &mut Circuit, held: &Controller, inputs: &Inputs) -> Contro
     choose_controller(circuit, is_off, &off, &on)
 }
 
-/// The one controller where the test holds, else the other one.
+/// The first controller if the test is true, otherwise the second.
 fn choose_controller(
     circuit: &mut Circuit,
     test: Literal,
@@ -74,7 +74,7 @@ fn choose_controller(
     }
 }
 
-/// A move, and what it counts.
+/// A move, with the error counters after it.
 fn count(circuit: &mut Circuit, moved: &Wires, counters: &Counters) -> Controller
     ensures { Makes circuit.old circuit.new (λ v. (m : MacMove) (c : ConfineParts) → shown v moved.now ≡ numbers m → is_off_phase m.phase ≡ false → HoldsCounters v counters.now c → c.tec < 256 → c.row ≡ 0 → IsStep v result (step_counting m c m.cause)) }
 {
@@ -105,7 +105,7 @@ fn count(circuit: &mut Circuit, moved: &Wires, counters: &Counters) -> Controlle
     }
 }
 
-/// A level off the bus.
+/// A level during bus-off.
 fn rest(circuit: &mut Circuit, held: &Controller, seen: Literal) -> Controller
     ensures { Makes circuit.old circuit.new (λ v. (m : MacState) (x : Level) → IsMac m → Holds v held.now m → is_off_phase m.phase ≡ true → value v seen ≡ is_recessive x → IsStep v result (off_step m x)) }
 {

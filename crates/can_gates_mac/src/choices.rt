@@ -1,4 +1,4 @@
-//! Choices among wires: one of two, the first row of a list, the one at a place.
+//! Choices among wires: one of two, the first row of a list, the ones at an index.
 ghost use Rattle.std.specs.Prelude.{◌≡◌, ◌^◌, ◌≤◌, ℕ, Bool, if◌then◌else◌, length, slice_index_or};
 ghost use Rattle.can_gates.specs.Circuit.{value, Makes};
 ghost use Rattle.can_gates.specs.Words.{number};
@@ -8,7 +8,7 @@ use crate::nibble::Nibble;
 use crate::wires::{Row, Wires};
 use can_gates::{Circuit, Literal};
 
-/// The one where the test holds, else the other one.
+/// The first wires if the test is true, otherwise the second.
 pub(crate) fn choose_wires(circuit: &mut Circuit, test: Literal, a: Wires, b: Wires) -> Wires
     ensures { Makes circuit.old circuit.new (λ v. shown v result ≡ (if value v test then shown v a else shown v b)) }
 {
@@ -36,7 +36,7 @@ pub(crate) fn choose_wires(circuit: &mut Circuit, test: Literal, a: Wires, b: Wi
     }
 }
 
-/// The wires of the first row whose two literals are true, else the other ones.
+/// The wires of the first row whose two literals are true, otherwise the others.
 pub(crate) fn first_row(circuit: &mut Circuit, rows: &[Row], otherwise: Wires) -> Wires
     ensures { Makes circuit.old circuit.new (λ v. shown v result ≡ listed v rows.now (shown v otherwise)) }
 {
@@ -49,7 +49,7 @@ pub(crate) fn first_row(circuit: &mut Circuit, rows: &[Row], otherwise: Wires) -
     choose_wires(circuit, test, row.2, rest)
 }
 
-/// The wires at the place that a number tells, the other ones past the end.
+/// The wires at an index that is a number; past the end the others.
 pub(crate) fn select_wires(
     circuit: &mut Circuit,
     items: &[Wires],
@@ -78,7 +78,7 @@ pub(crate) fn select_wires(
     choose_wires(circuit, place[last], high, low)
 }
 
-/// Two, so often multiplied.
+/// 2 to the power of `places`.
 fn power(places: usize) -> usize
     requires { places ≤ 16 }
     ensures { result ≡ 2 ^ places }

@@ -9,10 +9,10 @@ ghost use Rattle.can_gates_mac.specs.Counting.{tec_after, rec_after};
 use crate::nibble::Nibble;
 use can_gates::{Circuit, FALSE, Literal, TRUE, constant};
 
-/// REC behind a good reception of a frame, where it was above 127.
+/// REC after a good reception of a frame, if it was above 127.
 const REC_BEHIND_RECEPTION: u64 = 127;
 
-/// TEC behind what is counted: 8 more where a sender erred, one less where it has sent a frame.
+/// TEC after this cause: 8 more if a transmitter had an error, one less if it has sent a frame.
 pub(crate) fn tec_behind(circuit: &mut Circuit, cause: Nibble, tec: &[Literal; 9]) -> [Literal; 9]
     ensures places { length result ≡ 9 }
     ensures tec { Makes circuit.old circuit.new (λ v. nibble v cause < 6 → number v tec.now < 256 → number v result ≡ tec_after (nibble v cause) (number v tec.now)) }
@@ -23,7 +23,7 @@ pub(crate) fn tec_behind(circuit: &mut Circuit, cause: Nibble, tec: &[Literal; 9
     circuit.lowered(&up, &[falls])
 }
 
-/// REC behind what is counted: one or 8 more where a receiver erred, and what a reception makes of it.
+/// REC after this cause: 1 or 8 more if a receiver had an error; after a reception that of `rec_received`.
 pub(crate) fn rec_behind(circuit: &mut Circuit, cause: Nibble, rec: &[Literal; 8]) -> [Literal; 8]
     ensures places { length result ≡ 8 }
     ensures rec { Makes circuit.old circuit.new (λ v. nibble v cause < 6 → number v result ≡ rec_after (nibble v cause) (number v rec.now)) }
@@ -37,7 +37,7 @@ pub(crate) fn rec_behind(circuit: &mut Circuit, cause: Nibble, rec: &[Literal; 8
     circuit.choose(good, &received, &up)
 }
 
-/// REC behind a good reception.
+/// REC after a good reception.
 fn rec_received(circuit: &mut Circuit, rec: &[Literal; 8]) -> [Literal; 8]
     ensures { Makes circuit.old circuit.new (λ v. number v result ≡ rec_after_reception (number v rec.now)) }
 {
@@ -46,7 +46,7 @@ fn rec_received(circuit: &mut Circuit, rec: &[Literal; 8]) -> [Literal; 8]
     circuit.choose(rec[7], &most, &down)
 }
 
-/// Whether a counter is at least 128.
+/// Returns whether TEC or REC is at least 128.
 pub fn is_passive(circuit: &mut Circuit, tec: &[Literal; 9], rec: &[Literal; 8]) -> Literal
     ensures { Makes circuit.old circuit.new (λ v. value v result ≡ (nat_le 128 (number v tec.now) || nat_le 128 (number v rec.now))) }
 {

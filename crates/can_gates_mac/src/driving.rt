@@ -1,4 +1,4 @@
-//! What a controller drives, and the stuffing of a frame. (Bosch CAN 2.0 part B, sections 3.2 and 6)
+//! The level that a controller drives, and the stuffing of a frame. (Bosch CAN 2.0 part B, sections 3.2 and 6)
 ghost use Rattle.std.specs.Prelude.{◌≡◌, ◌≤◌, ◌==◌, ℕ, Bool, nat_le, Option};
 ghost use Rattle.can_frame.specs.declared.level.Level.{Level};
 ghost use Rattle.can_frame.specs.Levels.{is_recessive, same};
@@ -16,35 +16,35 @@ use crate::nibble::Nibble;
 use crate::registers::Controller;
 use can_gates::{Circuit, FALSE, Literal, TRUE, constant};
 
-/// What a controller reads of the frame that waits and of the frame on the bus, to drive a level.
+/// What decides which level a controller drives: of the pending frame, and of the frame on the bus.
 #[derive(Clone, Copy)]
 pub struct Sends {
-    /// Whether a frame waits.
+    /// Whether a frame is pending.
     pub waits: Literal,
-    /// Whether the check sequence of the frame on the bus agrees, where its stuffed part has ended.
+    /// After the stuffed part of a frame, whether its CRC sequence is right.
     pub agrees: Literal,
     /// Whether the next level is a stuff bit.
     pub due: Literal,
     /// Whether the last level was recessive.
     pub last: Literal,
-    /// Whether the next level of the sender's frame is recessive.
+    /// Whether the next level of the transmitter's frame is recessive.
     pub sent: Literal,
 }
 
-/// What a level is to the run of equal levels before it, and the run behind it.
+/// A level after a run of equal levels, and the run with it.
 #[derive(Clone, Copy)]
 pub struct StuffPlace {
     /// Whether the level is a stuff bit.
     pub due: Literal,
-    /// Whether it repeats the last one.
+    /// Whether it repeats the level before.
     pub repeats: Literal,
     /// Whether it is recessive.
     pub last: Literal,
-    /// How many levels in a row, up to it, equal it.
+    /// How many equal levels in a row end with it.
     pub run: Nibble,
 }
 
-/// Whether a controller drives recessive.
+/// Returns whether a controller drives recessive.
 pub fn drive(circuit: &mut Circuit, held: &Controller, sends: &Sends) -> Literal
     ensures { Makes circuit.old circuit.new (λ v. (m : MacState) (waiting : Option Parts) → Holds v held.now m → DrivesIn v sends.now m waiting → value v result ≡ is_recessive (mac_drives m waiting)) }
 {
@@ -65,7 +65,8 @@ pub fn drive(circuit: &mut Circuit, held: &Controller, sends: &Sends) -> Literal
     circuit.select(&items, &place)
 }
 
-/// What a level is to the run of equal levels before it, of which the last was recessive or not.
+/// Returns whether a level is a stuff bit, whether it repeats the last level, and the run with it. `last` is whether
+/// the last level was recessive, `run` how many equal levels ended with it.
 pub fn stuffing(circuit: &mut Circuit, last: Literal, run: Nibble, seen: Literal) -> StuffPlace
     ensures { Makes circuit.old circuit.new (λ v. (front : FrontParts) (x : Level) → HoldsRun v last run front → front.run ≤ 5 → value v seen ≡ is_recessive x → (value v result.due ≡ (front.run == 5)) × ((value v result.repeats ≡ same x front.last) × HoldsRun v result.last result.run (heard_level front x))) }
 {
@@ -84,14 +85,14 @@ pub fn stuffing(circuit: &mut Circuit, last: Literal, run: Nibble, seen: Literal
     }
 }
 
-/// The first place behind the arbitration of a standard frame.
+/// The first index after the RTR bit of a standard frame.
 const BEHIND_STANDARD: u64 = 13;
 
-/// The first place behind the arbitration of an extended frame.
+/// The first index after the RTR bit of an extended frame.
 const BEHIND_EXTENDED: u64 = 33;
 
-/// Whether the place of this number belongs to the arbitration of a frame of this format. (Bosch CAN 2.0 part B,
-/// section 3.2.1)
+/// Returns whether an unstuffed bit comes no later than the RTR bit of a frame of this format, so that it arbitrates.
+/// `count` is the index of the bit. (Bosch CAN 2.0 part B, section 3.2.1)
 pub fn arbitrates(circuit: &mut Circuit, count: &[Literal], extended: Literal) -> Literal
     ensures { Makes circuit.old circuit.new (λ v. value v result ≡ nat_le (number v count.now) (rtr_place (value v extended))) }
 {

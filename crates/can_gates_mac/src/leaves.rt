@@ -1,4 +1,4 @@
-//! What moves end in: the leaves of can_mac/specs/Moves.antt. (Bosch CAN 2.0 part B, sections 3.2 and 8)
+//! The ends of moves: the leaves of can_mac/specs/Moves.antt. (Bosch CAN 2.0 part B, sections 3.2 and 8)
 ghost use Rattle.std.specs.Prelude.{◌≡◌, ◌+◌, ◌-◌, ◌<◌, ◌≤◌, ℕ, Bool, true, false, nat_lt, if◌then◌else◌, Option, Some, None};
 ghost use Rattle.can_frame.specs.Levels.{is_recessive};
 ghost use Rattle.can_fault.specs.declared.cause.Cause.{Cause};
@@ -24,7 +24,7 @@ use crate::wires::Wires;
 use can_gates::{FALSE, Literal, TRUE};
 
 impl Senses {
-    /// Another phase or place; this is counted and told.
+    /// Another phase or place, with this cause and event.
     pub(crate) fn goes(&self, phase: u8, place: Nibble, cause: u8, event: u8) -> Wires
         requires phase { phase < 16 }
         requires cause { cause < 16 }
@@ -45,7 +45,7 @@ impl Senses {
         }
     }
 
-    /// An error at a sender or a receiver: an error flag starts.
+    /// An error of a transmitter or a receiver: an error flag starts.
     pub(crate) fn errs_by(&self, sender: Literal, cause: Nibble, kind: Nibble) -> Wires
         ensures { WhereSensed self.now (λ v s p x. (role : Role) (c : Option Cause) (e : ErrorKind) → value v sender ≡ is_sender role → nibble v cause ≡ cause_number c → nibble v kind ≡ kind_code e → shown v result ≡ numbers (errs_by c false (record s { role = role }) e)) }
     {
@@ -85,7 +85,7 @@ impl Senses {
         self.errs_by(self.sender, cause, Nibble::of(BIT_ERROR))
     }
 
-    /// A frame begins.
+    /// A frame starts.
     pub(crate) fn begins_frame(&self, sender: Literal) -> Wires
         ensures { WhereSensed self.now (λ v s p x. (role : Role) → value v sender ≡ is_sender role → shown v result ≡ numbers (begins_frame s role)) }
     {
@@ -103,7 +103,7 @@ impl Senses {
         }
     }
 
-    /// An overload flag of its own starts.
+    /// An overload flag of the controller's own starts.
     pub(crate) fn own_overload(&self) -> Wires
         ensures { WhereSensed self.now (λ v s p x. nat_lt s.overloads.used 2 ≡ true → shown v result ≡ numbers (record (overload s) { overloads = record { pending = s.overloads.pending - 1; used = s.overloads.used + 1 } })) }
     {
@@ -139,7 +139,7 @@ impl Senses {
         }
     }
 
-    /// An error passive sender has no acknowledgement.
+    /// An error passive transmitter has no acknowledgment.
     pub(crate) fn lacks_acknowledgement(&self) -> Wires
         ensures { WhereSensed self.now (λ v s p x. shown v result ≡ record (going s 8 0 0 8) { last = true; unacknowledged = true }) }
     {
@@ -176,7 +176,7 @@ impl Senses {
         }
     }
 
-    /// A passive error flag goes on.
+    /// A passive error flag continues.
     pub(crate) fn stays_in_passive_flag(&self, unacknowledged: Literal, cause: u8) -> Wires
         requires { cause < 16 }
         ensures { WhereSensed self.now (λ v s p x. (u : Bool) → value v unacknowledged ≡ u → shown v result ≡ record (going s 8 (run_with p x) cause 0) { last = is_recessive x; unacknowledged = u }) }
@@ -215,7 +215,7 @@ impl Senses {
     }
 }
 
-/// One less than at most two.
+/// One less than a number of at most two; 0 stays 0.
 fn fewer_than(pending: Nibble) -> Nibble
     ensures { (v : ℕ → Bool) → v 0 ≡ false → nibble v pending ≤ 2 → nibble v result ≡ nibble v pending - 1 }
 {
@@ -227,7 +227,7 @@ fn fewer_than(pending: Nibble) -> Nibble
     }
 }
 
-/// One more than at most one.
+/// One more than a number of at most one.
 fn more_than(used: Nibble) -> Nibble
     ensures { (v : ℕ → Bool) → v 0 ≡ false → nat_lt (nibble v used) 2 ≡ true → nibble v result ≡ nibble v used + 1 }
 {
@@ -251,7 +251,7 @@ fn flag_of(passive: Literal) -> Nibble
     }
 }
 
-/// What an error in a frame or in a delimiter counts.
+/// The cause of an error in a frame or in a delimiter.
 fn error_cause_of(sender: Literal) -> Nibble
     ensures { (v : ℕ → Bool) → v 0 ≡ false → nibble v result ≡ (if value v sender then 3 else 1) }
 {
@@ -263,7 +263,7 @@ fn error_cause_of(sender: Literal) -> Nibble
     }
 }
 
-/// What an error in an own flag counts.
+/// The cause of an error in an own flag.
 fn flag_bit_cause_of(sender: Literal) -> Nibble
     ensures { (v : ℕ → Bool) → v 0 ≡ false → nibble v result ≡ (if value v sender then 3 else 2) }
 {
@@ -275,7 +275,7 @@ fn flag_bit_cause_of(sender: Literal) -> Nibble
     }
 }
 
-/// What is told of an error of fixed form.
+/// The event of an error of fixed form.
 fn form_kind_of(sender: Literal) -> Nibble
     ensures { (v : ℕ → Bool) → v 0 ≡ false → nibble v result ≡ (if value v sender then 4 else 7) }
 {

@@ -1,4 +1,5 @@
-//! What a level makes of each phase: one function for each definition of can_mac/specs/Moves.antt, as a list of rows.
+//! The move of each phase with a level: one function for each definition of can_mac/specs/Moves.antt, as a list of
+//! rows.
 
 pub(crate) mod between_frames;
 pub(crate) mod flags;
@@ -27,7 +28,7 @@ use flags::{after_flag, delimiter, error_flag, overload_flag, passive_flag};
 use frame_end::{ack_delimiter, ack_slot, crc_delimiter, end_of_frame};
 use stuffed_part::stuffed_part;
 
-/// The move from any phase on the bus.
+/// The move from any phase but bus-off.
 pub(crate) fn next_move(circuit: &mut Circuit, now: &Now, part: &Part) -> Wires
     ensures { Makes circuit.old circuit.new (λ v. (s : Stance) (p : MacPhase) (waiting : Option Parts) (x : Level) → IsNow v now.now s p waiting x → nibble v now.now.phase ≡ phase_number p → IsPartIn v part.now s.role p x → is_off_phase p ≡ false → shown v result ≡ numbers (move s p waiting x)) }
 {

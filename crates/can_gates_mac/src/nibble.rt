@@ -9,18 +9,18 @@ use can_gates::{Circuit, FALSE, Literal, TRUE};
 /// A number below 16, of four literals.
 #[derive(Clone, Copy)]
 pub struct Nibble {
-    /// The lowest place.
+    /// The lowest bit.
     pub ones: Literal,
-    /// The second place.
+    /// The second bit.
     pub twos: Literal,
-    /// The third place.
+    /// The third bit.
     pub fours: Literal,
-    /// The highest place.
+    /// The highest bit.
     pub eights: Literal,
 }
 
 impl Nibble {
-    /// A number.
+    /// Returns a constant.
     pub fn of(number: u8) -> Nibble
         requires { number < 16 }
         ensures { (v : ℕ → Bool) → v 0 ≡ false → nibble v result ≡ number }
@@ -33,7 +33,7 @@ impl Nibble {
         }
     }
 
-    /// The one number where the test holds, else the other one.
+    /// Returns the first number if the test is true, otherwise the second.
     pub fn choose(circuit: &mut Circuit, test: Literal, a: Nibble, b: Nibble) -> Nibble
         ensures { Makes circuit.old circuit.new (λ v. nibble v result ≡ (if value v test then nibble v a else nibble v b)) }
     {
@@ -49,7 +49,7 @@ impl Nibble {
         }
     }
 
-    /// Whether it is less than a bound.
+    /// Returns whether it is less than a bound.
     pub fn less(self, circuit: &mut Circuit, bound: u8) -> Literal
         requires { bound < 16 }
         ensures { Makes circuit.old circuit.new (λ v. value v result ≡ nat_lt (nibble v self) bound) }
@@ -61,7 +61,7 @@ impl Nibble {
         )
     }
 
-    /// One more than a number below 15.
+    /// One more, of a number below 15.
     pub(crate) fn next(self, circuit: &mut Circuit) -> Nibble
         ensures { Makes circuit.old circuit.new (λ v. nibble v self < 15 → nibble v result ≡ nibble v self + 1) }
     {
@@ -79,7 +79,7 @@ impl Nibble {
     }
 }
 
-/// The lowest place of a number.
+/// The lowest bit of a number.
 #[tactic(auto, unfolding(can_gates::specs::Circuit::value))]
 fn lowest(number: u8) -> Literal
     ensures { (v : ℕ → Bool) → v 0 ≡ false → bit (value v result) ≡ number % 2 }

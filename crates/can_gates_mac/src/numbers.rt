@@ -30,7 +30,7 @@ pub(crate) const SUSPEND: u8 = 13;
 
 pub(crate) const BUS_OFF: u8 = 14;
 
-/// Nothing is counted.
+/// No counter changes.
 pub(crate) const UNCOUNTED: u8 = 0;
 /// REC rises by 8.
 pub(crate) const RECEIVER_BY_8: u8 = 2;
@@ -41,7 +41,7 @@ pub(crate) const FRAME_SENT: u8 = 4;
 /// A frame has been received.
 pub(crate) const FRAME_RECEIVED: u8 = 5;
 
-/// Nothing is told.
+/// There is no event.
 pub(crate) const UNTOLD: u8 = 0;
 
 pub(crate) const SENT: u8 = 1;

@@ -1,4 +1,4 @@
-//! Off the bus, and how it ends. (Bosch CAN 2.0 part B, section 8)
+//! Bus-off, and how it ends. (Bosch CAN 2.0 part B, section 8)
 ghost use Rattle.std.specs.Prelude.{◌≡◌, ◌<◌, ℕ, Bool, true, false, if◌then◌else◌, length};
 ghost use Rattle.can_frame.specs.declared.level.Level.{Level};
 ghost use Rattle.can_frame.specs.Levels.{is_recessive};
@@ -13,18 +13,18 @@ use crate::nibble::Nibble;
 use crate::senses::Places;
 use can_gates::{Circuit, FALSE, Literal};
 
-/// What a level makes of recovery.
+/// Recovery after a level.
 #[derive(Clone, Copy)]
 pub(crate) struct Recovery {
-    /// How many recessive levels stand in a row since the last occurrence of eleven.
+    /// How many recessive levels in a row there are since the last occurrence of eleven.
     pub(crate) row: Nibble,
-    /// How many occurrences there were.
+    /// How many occurrences of eleven recessive levels there were.
     pub(crate) occurrences: [Literal; 7],
-    /// Whether this was the 128th.
+    /// Whether this level completed the 128th.
     pub(crate) ended: Literal,
 }
 
-/// A level off the bus.
+/// Recovery after a level during bus-off.
 pub(crate) fn recover(
     circuit: &mut Circuit,
     places: &Places,
@@ -47,7 +47,7 @@ pub(crate) fn recover(
     }
 }
 
-/// The phase off the bus, or idle where it has ended.
+/// The phase bus-off, or idle if it has ended.
 pub(crate) fn rest_phase(ended: Literal) -> Nibble
     ensures { (v : ℕ → Bool) → v 0 ≡ false → nibble v result ≡ (if value v ended then 0 else 14) }
 {
@@ -59,7 +59,7 @@ pub(crate) fn rest_phase(ended: Literal) -> Nibble
     }
 }
 
-/// What is told as bus off ends.
+/// The event of the end of bus-off.
 pub(crate) fn rest_event(ended: Literal) -> Nibble
     ensures { (v : ℕ → Bool) → v 0 ≡ false → nibble v result ≡ (if value v ended then 11 else 0) }
 {

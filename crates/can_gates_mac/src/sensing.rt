@@ -1,4 +1,4 @@
-//! How what the moves read is made.
+//! Makes what the moves read.
 ghost use Rattle.std.specs.Prelude.{◌≡◌, ◌≤◌, ℕ, Bool, nat_lt, ◌&&◌, if◌then◌else◌, Option};
 ghost use Rattle.can_frame.specs.declared.level.Level.{Level};
 ghost use Rattle.can_frame.specs.Parts.{Parts};
@@ -54,7 +54,7 @@ pub(crate) fn sense(circuit: &mut Circuit, now: &Now) -> Senses
     }
 }
 
-/// How a place compares, and the next one.
+/// Comparisons of a place, and the next place.
 pub(crate) fn compare(circuit: &mut Circuit, place: Nibble) -> Places
     ensures { Makes circuit.old circuit.new (λ v. IsPlaced v result (nibble v place)) }
 {
@@ -74,7 +74,7 @@ pub(crate) fn compare(circuit: &mut Circuit, place: Nibble) -> Places
     }
 }
 
-/// Whether an overload frame of its own is asked for and can be started. (Bosch CAN 2.0 part B, section 3.2.4)
+/// Whether an own overload frame is requested and can be started. (Bosch CAN 2.0 part B, section 3.2.4)
 fn asks(circuit: &mut Circuit, pending: Nibble, used: Nibble) -> Literal
     ensures { Makes circuit.old circuit.new (λ v. nibble v pending ≤ 2 → nibble v used ≤ 2 → value v result ≡ (nat_lt 0 (nibble v pending) && nat_lt (nibble v used) 2)) }
 {
@@ -82,7 +82,7 @@ fn asks(circuit: &mut Circuit, pending: Nibble, used: Nibble) -> Literal
     circuit.and(some, used.twos.opposite())
 }
 
-/// How many equal levels in a row a passive flag has, with the level that is seen.
+/// How many equal levels in a row a passive error flag has, with the sampled one.
 fn run_behind(circuit: &mut Circuit, last: Literal, seen: Literal, next: Nibble) -> Nibble
     ensures { Makes circuit.old circuit.new (λ v. nibble v result ≡ (if differ (value v last) (value v seen) then 1 else nibble v next)) }
 {

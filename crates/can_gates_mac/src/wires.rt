@@ -1,9 +1,9 @@
-//! What a circuit has of a controller: numbers and truth values as literals.
+//! The literals of a controller: numbers and truth values.
 use crate::nibble::Nibble;
 use can_gates::Literal;
 
-/// A controller but for its counters and frames, with what is counted and what is told. What a phase has no use for is 0
-/// in it. (`specs/Numbers.antt`)
+/// A controller without its counters and frames, with cause and event. What a phase does not use is 0.
+/// (`specs/Numbers.antt`)
 #[derive(Clone, Copy)]
 pub struct Wires {
     /// The number of the phase.
@@ -12,27 +12,27 @@ pub struct Wires {
     pub place: Nibble,
     /// Whether the last level in a passive error flag was recessive.
     pub last: Literal,
-    /// Whether the passive error flag is that of a sender without acknowledgement, which has counted nothing yet.
+    /// Whether the passive error flag is that of a transmitter without acknowledgment, which has counted nothing yet.
     pub unacknowledged: Literal,
-    /// Whether the next level is the first behind an error flag.
+    /// Whether the next level is the first after an error flag.
     pub first: Literal,
-    /// Whether the controller is the sender of the frame on the bus.
+    /// Whether the controller is the transmitter of the frame on the bus.
     pub sender: Literal,
-    /// How many overload frames of its own are asked for, 0 to 2.
+    /// How many own overload frames are requested, 0 to 2.
     pub pending: Nibble,
-    /// How many of these it has used since the last frame, 0 to 2.
+    /// How many it has sent since the last frame, 0 to 2.
     pub used: Nibble,
-    /// The number of what is counted.
+    /// The number of the cause.
     pub cause: Nibble,
-    /// The number of what is told.
+    /// The number of the event.
     pub event: Nibble,
 }
 
-/// Wires that hold where two literals are true.
+/// Wires that are chosen if two literals are true.
 #[derive(Clone, Copy)]
 pub(crate) struct Row(pub(crate) Literal, pub(crate) Literal, pub(crate) Wires);
 
-/// A controller's registers but for its counters and frames, and what comes in a bit time.
+/// A controller's registers without its counters and frames, and the inputs of a bit time.
 #[derive(Clone, Copy)]
 pub(crate) struct Now {
     /// The number of the phase.
@@ -41,50 +41,50 @@ pub(crate) struct Now {
     pub(crate) place: Nibble,
     /// Whether the last level in a passive error flag was recessive.
     pub(crate) last: Literal,
-    /// Whether the passive error flag is that of a sender without acknowledgement.
+    /// Whether the passive error flag is that of a transmitter without acknowledgment.
     pub(crate) unacknowledged: Literal,
-    /// Whether the next level is the first behind an error flag.
+    /// Whether the next level is the first after an error flag.
     pub(crate) first: Literal,
-    /// Whether the controller is the sender.
+    /// Whether the controller is the transmitter.
     pub(crate) sender: Literal,
-    /// How many own overload frames are asked for.
+    /// How many own overload frames are requested.
     pub(crate) pending: Nibble,
-    /// How many were used.
+    /// How many it has sent since the last frame.
     pub(crate) used: Nibble,
     /// Whether the controller is error passive.
     pub(crate) passive: Literal,
-    /// Whether a frame waits.
+    /// Whether a frame is pending.
     pub(crate) waits: Literal,
-    /// Whether the level that is seen is recessive.
+    /// Whether the sampled level is recessive.
     pub(crate) seen: Literal,
-    /// Whether the check sequence of the frame on the bus agrees, where its stuffed part has ended.
+    /// After the stuffed part of the frame on the bus, whether its CRC sequence is right.
     pub(crate) agrees: Literal,
 }
 
-/// What the stuffed part's move reads of what is heard of a frame.
+/// What the move of the stuffed part reads of a frame as received so far.
 #[derive(Clone, Copy)]
 pub struct Part {
     /// Whether the next level is a stuff bit.
     pub due: Literal,
-    /// Whether the level that is seen repeats the last one.
+    /// Whether the sampled level repeats the last one.
     pub repeats: Literal,
-    /// Whether the next level belongs to the arbitration of the sender's frame.
+    /// Whether the next level comes no later than the RTR bit of the transmitter's frame.
     pub arbitrates: Literal,
-    /// Whether the next level of the sender's frame is recessive.
+    /// Whether the next level of the transmitter's frame is recessive.
     pub sent: Literal,
-    /// Whether the stuffed part ends with the level that is seen.
+    /// Whether the stuffed part ends with the sampled level.
     pub ends: Literal,
 }
 
-/// What comes in a bit time, and what is read of the frame on the bus.
+/// The inputs of a bit time, and what is read of the frame on the bus.
 #[derive(Clone, Copy)]
 pub struct Inputs {
-    /// Whether a frame waits.
+    /// Whether a frame is pending.
     pub waits: Literal,
-    /// Whether the level that is seen is recessive.
+    /// Whether the sampled level is recessive.
     pub seen: Literal,
-    /// Whether the check sequence of the frame on the bus agrees, where its stuffed part has ended.
+    /// After the stuffed part of the frame on the bus, whether its CRC sequence is right.
     pub agrees: Literal,
-    /// What is heard of a frame whose stuffed part goes on.
+    /// What is read of a frame in its stuffed part.
     pub part: Part,
 }

@@ -1,4 +1,4 @@
--- To believe: public calls and laws make their claims in these definitions
+-- To believe: the definitions in which public calls and laws state what they promise
 pub mod Ports
 pub mod Waiting
 pub mod Listening

@@ -1,4 +1,4 @@
--- Demands one behind another, and the elements of arrays.
+-- Demands one after another, and the elements of arrays.
 use Rattle.std.proofs.Common.{◌≡◌, List, [], ◌∷◌, map, refl, sym, ap, ◌∙◌, inl, inr}
 use Rattle.toml.specs.View.{view, items_view}
 use Rattle.toml.specs.declared.value.Value.{Value}
@@ -21,7 +21,7 @@ pub unmet-later : {F : Type 0} (wrong : F) (first later : Demands F) → AllMet 
 unmet-later wrong no_demands later a u = u
 unmet-later wrong (demand told met rest) later a u = inr (a.0, unmet-later wrong rest later a.1 u)
 
--- where all are met, none is the first that isn't
+-- if all are met, none is the first that is not
 pub met-unmet : {F : Type 0} (wrong : F) (demands : Demands F) → AllMet demands → IsFirstUnmet wrong demands → ⊥
 met-unmet wrong no_demands all u = u
 met-unmet wrong (demand told met rest) all (inl here) = here.1 all.0

@@ -1,4 +1,4 @@
--- Bytes that don't meet the demands on a document have one field that is told, and those that do have none.
+-- Bytes that do not meet the demands on a document have one field that is reported; those that meet them have none.
 use Rattle.std.proofs.Common.{◌≡◌, ℕ, List, sym, ◌∙◌, subst, inl, inr}
 use Rattle.toml.specs.Data.{Data}
 use Rattle.document_values.specs.Demands.{AllMet, Demands, IsFirstUnmet}

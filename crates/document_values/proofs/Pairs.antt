@@ -5,7 +5,7 @@ use Rattle.toml.specs.View.{view}
 use Rattle.toml.specs.declared.value.Value.{Value}
 use Rattle.document_values.specs.Values.{IsArray, elements, elements_of, three, two}
 
--- an array is told by its elements
+-- two arrays with the same elements are the same
 same-items : (xs ys : Items) → elements_of xs ≡ elements_of ys → xs ≡ ys
 same-items no_items no_items e = refl
 same-items no_items (item d ys) e = absurd (cc)

@@ -18,7 +18,7 @@ pub record IsRead {F B : Type 0} (one : ℕ → Data → Demands F) (Says : Data
 pub IsRead-none : {F B : Type 0} (one : ℕ → Data → Demands F) (Says : Data → B → Type 0) (values : List Value) → IsRead one Says values 0 []
 IsRead-none one Says values = record { met = λ m. m; unmet = λ wrong u. u; said = λ more p. p }
 
--- the value at a place, and those behind it
+-- the value at an index, and those after it
 values_from : (values : List Value) (place : ℕ) (value : Value) → place < length values → value ≡ get_or values place value → drop place values ≡ value ∷ drop (place + 1) values
 values_from values place value within is = drop_more values place value within ∙ ap (λ v. v ∷ drop (place + 1) values) (sym is)
 

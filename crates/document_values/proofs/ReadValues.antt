@@ -1,4 +1,4 @@
--- What the readers of a document's values answer.
+-- What the readers of a document's values return.
 use Rattle.std.proofs.Common.{◌≡◌, ℕ, List, [], ◌∷◌, ◌&&◌, map, Some, String, Global, Bor, string_bytes, bytes_eq, refl, ap, sym, ◌∙◌, length}
 use Rattle.std.proofs.lemmas.Map.Text.{is_eq-slice_cmp}
 use Rattle.std.proofs.lemmas.Option.{same_Some, none-some}

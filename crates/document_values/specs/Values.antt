@@ -1,4 +1,4 @@
--- Values of a TOML document: what a field says. (docs/FORMATS.md, docs/CONFORMANCE.md)
+-- Values of a TOML document, and how fields are read. (docs/FORMATS.md, docs/CONFORMANCE.md)
 use Rattle.std.specs.Prelude.{◌≡◌, ℕ, ◌≤◌, pos, Bool, true, false, ◌&&◌, List, [], ◌∷◌, Option, Some, None, IsUtf8}
 use Rattle.std.specs.List.{list_any}
 use Rattle.toml.specs.Data.{Data, string, integer, boolean, array, table, Items, no_items, item, Members, no_members, member, get_member, same_key}
@@ -8,7 +8,7 @@ use Rattle.can_frame.specs.Text.{frame_text, IsFrameText}
 
 -- ---- the document
 
--- the bytes are this document
+-- the bytes are this document, in UTF-8
 pub record IsDocument (bytes : List ℕ) (document : Data) : Type 0 where
   pub utf8 : IsUtf8 bytes
   pub members : Members
@@ -36,7 +36,7 @@ abbrev pub IsOptional : (Data → Type 0) → Option Data → Type 0
 IsOptional P None = Unit {0}
 IsOptional P (Some d) = P d
 
--- one that has to be there
+-- a field that must be there
 abbrev pub IsRequired : (Data → Type 0) → Option Data → Type 0
 IsRequired P None = ⊥
 IsRequired P (Some d) = P d
@@ -51,9 +51,11 @@ IsNumber n d = d ≡ integer (pos n)
 abbrev pub IsUpTo : ℕ → Data → Type 0
 IsUpTo limit d = (n : ℕ) × IsNumber n d × (n ≤ limit)
 
+-- a truth value
 abbrev pub IsTruthValue : Data → Type 0
 IsTruthValue d = (b : Bool) × (d ≡ boolean b)
 
+-- a table
 abbrev pub IsTable : Data → Type 0
 IsTable d = (members : Members) × (d ≡ table members)
 
@@ -63,6 +65,7 @@ IsFrameValue d = (text : List ℕ) × (d ≡ string text) × IsFrameText text
 
 -- ---- arrays
 
+-- an array
 abbrev pub IsArray : Data → Type 0
 IsArray d = (items : Items) × (d ≡ array items)
 
@@ -74,6 +77,7 @@ two a b = array (item a (item b no_items))
 abbrev pub three : Data → Data → Data → Data
 three a b c = array (item a (item b (item c no_items)))
 
+-- the elements of an array, as a list
 abbrev pub elements_of : Items → List Data
 elements_of no_items = []
 elements_of (item d ds) = d ∷ elements_of ds
@@ -83,35 +87,35 @@ abbrev pub elements : Data → List Data
 elements (array items) = elements_of items
 elements _ = []
 
--- the elements of a field, none where it is left out
+-- the elements of a field; none if it is left out
 abbrev pub elements_in : Option Data → List Data
 elements_in None = []
 elements_in (Some d) = elements d
 
--- the elements of two lists, pair by pair
+-- two lists have the same length, and their elements are related pair by pair
 abbrev pub ArePaired : {A B : Type 0} → (A → B → Type 0) → List A → List B → Type 0
 ArePaired R [] [] = Unit {0}
 ArePaired R [] (y ∷ ys) = ⊥
 ArePaired R (x ∷ xs) [] = ⊥
 ArePaired R (x ∷ xs) (y ∷ ys) = R x y × ArePaired R xs ys
 
--- ---- what they say
+-- ---- how values are read
 
--- the number that a field says, 0 where it says none
+-- the number of a field, 0 if it is no number
 abbrev pub field_number : Option Data → ℕ
 field_number (Some (integer (pos n))) = n
 field_number _ = 0
 
--- the number that a field says, or this one where it is left out
+-- the number of a field; `usual` if the field is left out
 abbrev pub SaysNumber : ℕ → Option Data → ℕ → Type 0
 SaysNumber usual None n = n ≡ usual
 SaysNumber usual (Some d) n = IsNumber n d
 
--- whether a field says so; where it is left out, it doesn't
+-- the truth value of a field; false if the field is left out
 abbrev pub SaysWhether : Option Data → Bool → Type 0
 SaysWhether None b = b ≡ false
 SaysWhether (Some d) b = d ≡ boolean b
 
--- the text of this frame
+-- the value is the text of this frame
 abbrev pub SaysFrame : Data → Parts → Type 0
 SaysFrame d f = IsFrame f × (d ≡ string (frame_text f))

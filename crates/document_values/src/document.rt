@@ -1,4 +1,4 @@
-//! The document that some bytes are.
+//! The document of some bytes.
 ghost use Rattle.std.specs.Prelude.{IfOk, IsErrOf};
 ghost use Rattle.toml.specs.Data.{Data, table};
 ghost use Rattle.toml.specs.View.{table_view};
@@ -10,13 +10,13 @@ use toml::Table;
 /// Why bytes are not read as a document.
 #[derive(Clone, Copy, Debug, PartialEq, Eq)]
 pub enum DocumentFault {
-    /// They are no UTF-8, or no TOML document.
+    /// They are not UTF-8, or not a TOML document.
     NoDocument,
-    /// Memory ran out.
+    /// An allocation failed.
     Memory,
 }
 
-/// The document that the bytes are.
+/// Returns the document of these bytes.
 pub fn read_document(alloc: Global, text: &[u8]) -> Result<Table, DocumentFault>
     ensures said { IfOk result (λ fields. IsDocument text.now (table (table_view fields))) }
     ensures none { IsErrOf result DocumentFault.NoDocument → ¬ ((document : Data) × IsDocument text.now document) }

@@ -1,19 +1,17 @@
-//! Values of TOML documents. A reader answers what a field says, or nothing where the field isn't as it has to be. What
-//! is written is appended to a buffer: an append fails only where an allocation does, and then the buffer holds a
-//! beginning of the text.
+//! Values of TOML documents. A reader returns the value of a field, or `None` if the field is not what it has to be. A
+//! writer appends to a buffer. It fails only if an allocation fails, and then the buffer has the beginning of the text.
 //!
-//! What a document has to meet is a list of demands in their order, each with the field that is told where it
-//! isn't met (`specs/Demands.antt`). Crates above state theirs, and read the values with these calls.
+//! The requirements on a document are a list of demands in their order, each with the field that is reported if it is
+//! not met (`specs/Demands.antt`). Crates that use this one state their demands, and read the values with these calls.
 //!
 //! | File | What it has | Defined in |
 //! |---|---|---|
-//! | `document.rt` | [`read_document`], the document that some bytes are | `specs/Values.antt` |
+//! | `document.rt` | [`read_document`], the document of some bytes | `specs/Values.antt` |
 //! | `values.rt` | fields, numbers, truth values, arrays and frames | `specs/Values.antt` |
 //! | `texts.rt` | [`push_text`], [`push_number`], [`push_named`] | |
 //!
-//! Of the lemmas, `DemandLemmas` has demands one behind another, `ReadLists` the elements of an array, read one
-//! after another, `ReadValues` what the readers answer, `Pairs` arrays of two and three, and `OneReading` that values and
-//! demands say one thing.
+//! Lemmas: `DemandLemmas` is on demands one after another, `ReadLists` on the elements of an array, `ReadValues` on
+//! what the readers return, `Pairs` on arrays of two and three. `OneReading` is that values and demands agree.
 #![tactic(auto)]
 
 mod document;

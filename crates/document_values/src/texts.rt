@@ -1,4 +1,4 @@
-//! Texts and numbers, appended.
+//! Appending texts and numbers.
 ghost use Rattle.std.specs.Prelude.{◌≡◌, ◌++◌, decimal, OnOk};
 
 use itoa::Buffer;
@@ -19,7 +19,7 @@ pub fn push_number(out: &mut Vec<u8>, number: u64) -> Result<(), AllocError>
     push_text(out, buffer.format(number).as_bytes())
 }
 
-/// Appends a word, and a number in decimal behind it.
+/// Appends a word, and after it a number in decimal.
 pub fn push_named(out: &mut Vec<u8>, word: &[u8], number: u64) -> Result<(), AllocError>
     ensures { OnOk result (out.new.items ≡ out.old.items ++ (word.now ++ decimal number)) }
 {

@@ -8,14 +8,14 @@ ghost use Rattle.document_values.specs.Values.{are_known, elements_in, elements,
 use can_frame::Frame;
 use toml::{Table, Value};
 
-/// The field of this name.
+/// Returns the field with this name, if there is one.
 pub fn field<'a>(fields: &'a Table, name: &str) -> Option<&'a Value>
     ensures { option_map (λ v. view v.now) result ≡ named name.now (table (table_view fields.now)) }
 {
     fields.get(name)
 }
 
-/// Whether each of the fields has one of these names.
+/// Returns whether each of the fields has one of these names.
 pub fn has_only(fields: &Table, names: &[&str]) -> bool
     ensures { result ≡ are_known (map (λ name. name.now) names.now) (table_view fields.now) }
 {
@@ -29,7 +29,7 @@ fn is_among(name: &str, names: &[&str]) -> bool
     names.iter().any(|known| name == *known)
 }
 
-/// The fields of a table.
+/// Returns the fields of a table.
 pub fn fields_of(value: &Value) -> Option<&Table>
     ensures said { IfSome result (λ fields. view value.now ≡ table (table_view fields.now)) }
     ensures unmet { IfNone result (¬ IsTable (view value.now)) }
@@ -37,7 +37,7 @@ pub fn fields_of(value: &Value) -> Option<&Table>
     value.as_table()
 }
 
-/// The elements of an array.
+/// Returns the elements of an array.
 pub fn elements_of(value: &Value) -> Option<&[Value]>
     ensures said { IfSome result (λ values. map view values.now ≡ elements (view value.now)) }
     ensures met { OnSome result (IsArray (view value.now)) }
@@ -46,7 +46,7 @@ pub fn elements_of(value: &Value) -> Option<&[Value]>
     Some(value.as_array()?.as_slice())
 }
 
-/// The elements of a field that is an array, none where it is left out.
+/// Returns the elements of a field that is an array; none if it is left out.
 pub fn elements_or_none<'a>(fields: &'a Table, name: &str) -> Option<&'a [Value]>
     ensures said { IfSome result (λ values. map view values.now ≡ elements_in (named name.now (table (table_view fields.now)))) }
     ensures met { OnSome result (IsOptional IsArray (named name.now (table (table_view fields.now)))) }
@@ -58,7 +58,7 @@ pub fn elements_or_none<'a>(fields: &'a Table, name: &str) -> Option<&'a [Value]
     }
 }
 
-/// The two values of an array of two.
+/// Returns the two values of an array of two.
 pub fn two_of(value: &Value) -> Option<(&Value, &Value)>
     ensures said { IfSome result (λ both. view value.now ≡ two (view both.0.now) (view both.1.now)) }
     ensures unmet { IfNone result ((a b : Data) → ¬ (view value.now ≡ two a b)) }
@@ -69,7 +69,7 @@ pub fn two_of(value: &Value) -> Option<(&Value, &Value)>
     }
 }
 
-/// The three values of an array of three.
+/// Returns the three values of an array of three.
 pub fn three_of(value: &Value) -> Option<(&Value, &Value, &Value)>
     ensures said { IfSome result (λ all. view value.now ≡ three (view all.0.now) (view all.1.now) (view all.2.now)) }
     ensures unmet { IfNone result ((a b c : Data) → ¬ (view value.now ≡ three a b c)) }
@@ -80,14 +80,14 @@ pub fn three_of(value: &Value) -> Option<(&Value, &Value, &Value)>
     }
 }
 
-/// The number, if it is a whole number of at least 0.
+/// Returns the number, if the value is a whole number of at least 0.
 pub fn whole_number(value: &Value) -> Option<u64>
     ensures { MatchOption result ((n : ℕ) → ¬ IsNumber n (view value.now)) (λ n. IsNumber n (view value.now)) }
 {
     u64::try_from(value.as_integer()?).ok()
 }
 
-/// A whole number from 0 to the limit.
+/// Returns the number, if the value is a whole number from 0 to the limit.
 pub fn number(value: &Value, limit: u64) -> Option<u64>
     ensures said { IfSome result (λ n. IsNumber n (view value.now)) }
     ensures within { IfSome result (λ n. n ≤ limit) }
@@ -97,7 +97,7 @@ pub fn number(value: &Value, limit: u64) -> Option<u64>
     (number <= limit).then_some(number)
 }
 
-/// The number that a field says, where it may not be left out.
+/// Returns the number of a required field, if it is a whole number from 0 to the limit.
 pub fn required_number(fields: &Table, name: &str, limit: u64) -> Option<u64>
     ensures said { IfSome result (λ n. IsRequired (IsNumber n) (named name.now (table (table_view fields.now)))) }
     ensures within { IfSome result (λ n. n ≤ limit) }
@@ -107,7 +107,7 @@ pub fn required_number(fields: &Table, name: &str, limit: u64) -> Option<u64>
     number(field(fields, name)?, limit)
 }
 
-/// The number that a field says, or the usual one where it is left out.
+/// Returns the number of a field, if it is a whole number from 0 to the limit; `usual` if the field is left out.
 pub fn number_or(fields: &Table, name: &str, usual: u64, limit: u64) -> Option<u64>
     requires { usual ≤ limit }
     ensures said { IfSome result (SaysNumber usual (named name.now (table (table_view fields.now)))) }
@@ -121,7 +121,7 @@ pub fn number_or(fields: &Table, name: &str, usual: u64, limit: u64) -> Option<u
     }
 }
 
-/// The truth value that a field says, false where it is left out.
+/// Returns the truth value of a field; false if it is left out.
 pub fn truth(fields: &Table, name: &str) -> Option<bool>
     ensures said { IfSome result (SaysWhether (named name.now (table (table_view fields.now)))) }
     ensures met { OnSome result (IsOptional IsTruthValue (named name.now (table (table_view fields.now)))) }
@@ -133,7 +133,7 @@ pub fn truth(fields: &Table, name: &str) -> Option<bool>
     }
 }
 
-/// The frame whose text the value is.
+/// Returns the frame, if the value is the text of one.
 pub fn frame(value: &Value) -> Option<Frame>
     ensures said { IfSome result (SaysFrame (view value.now)) }
     ensures met { OnSome result (IsFrameValue (view value.now)) }

@@ -25,12 +25,12 @@ use crate::literal::{Literal, bit_of};
 use crate::register::Register;
 use std::alloc::Global;
 
-/// How many groups of seven bits a number may have behind its first one.
+/// How many groups of seven bits a number may have after its first one.
 const MORE_GROUPS: u32 = 9;
 
-/// An AIGER file in the ascii format: a circuit whose last inputs are what these registers hold, in their order, its names, and
-/// their meaning in a comment. It refuses a circuit that lacks a gate with the reason that the circuit has, and a
-/// complete one only if memory was refused.
+/// Returns an AIGER file in the ASCII format, with the names of a circuit, and their meaning as a comment. The last
+/// inputs of the circuit are the values of these registers, in their order. A circuit that lacks a gate is refused with
+/// its reason; a complete one only if an allocation fails.
 pub fn ascii_file(
     alloc: Global,
     names: &Names<'_>,
@@ -53,7 +53,7 @@ pub fn ascii_file(
     Ok(text.finished()?)
 }
 
-/// The same in the binary format.
+/// Returns an AIGER file in the binary format. It has the same content and refusals as [`ascii_file`].
 pub fn binary_file(
     alloc: Global,
     names: &Names<'_>,
@@ -89,7 +89,7 @@ fn push_registers(text: &mut Text, registers: &[Register])
     }
 }
 
-/// Appends the numbers of gates.
+/// Appends the differences of gates.
 fn push_gates(text: &mut Text, gates: &[Gate])
     ensures { Writes text.old text.new (flat_map gate_bytes gates.now) }
 {
@@ -101,7 +101,7 @@ fn push_gates(text: &mut Text, gates: &[Gate])
     }
 }
 
-/// Appends a number in groups of seven bits, the lowest first, with so many more at most.
+/// Appends a number in groups of seven bits, the lowest first: one group and at most `most` more.
 fn push_groups(text: &mut Text, number: u64, most: u32)
     ensures { Writes text.old text.new (groups most number) }
 {
@@ -115,21 +115,23 @@ fn push_groups(text: &mut Text, number: u64, most: u32)
     text.push_byte((rest % 128) as u8);
 }
 
-/// The gates of a circuit that stand in their order are read back of the bytes of its binary file. It does nothing.
+/// A reader recovers the gates of a circuit from the bytes of its binary file. The gates must be in order, and signals
+/// below 2^32. A law: it does nothing.
 pub fn gates_are_read_back()
     ensures { (c : CircuitParts) (behind : List ℕ) → IsOrdered c.inputs c.highest c.gates → c.highest < 2 ^ 32
         → gates_in (length c.gates) (c.inputs + 1) (flat_map gate_bytes (reverse c.gates) ++ behind) ≡ reverse c.gates }
 {}
 
-/// The numbers of an ascii file, the header's first, its names and its comment are read back, where names and their meanings
-/// are readable, and the numbers below 2^64. It does nothing.
+/// A reader recovers the numbers, the names and the comment of an ASCII file. Names and meanings must be readable, and
+/// numbers below 2^64. The first line of numbers is the header. A law: it does nothing.
 pub fn ascii_files_are_read_back()
     ensures { (n : AllNames) (c : CircuitParts) (registers : List RegisterParts) (outputs : List Side) → AreReadable n → AreLines (file_lines c registers outputs)
         → read_ascii (ascii_text n c registers outputs) ≡ record { numbers = file_lines c registers outputs; names = names_lines n } }
 {}
 
-/// So are the numbers, the gates, the names and the comment of a binary file, where the gates stand in their order. It does
-/// nothing.
+/// A reader recovers the numbers, the gates, the names and the comment of a binary file. Names and meanings must be
+/// readable, numbers below 2^64, the gates in order, and signals below 2^32. There must be no more registers than
+/// inputs. A law: it does nothing.
 pub fn binary_files_are_read_back()
     ensures { (n : AllNames) (c : CircuitParts) (registers : List RegisterParts) (outputs : List Side) → AreReadable n → AreLines (file_lines c registers outputs)
         → IsOrdered c.inputs c.highest c.gates → c.highest < 2 ^ 32 → length registers ≤ c.inputs

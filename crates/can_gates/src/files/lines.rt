@@ -1,4 +1,4 @@
-//! Lines of numbers, as AIGER's ascii format has them.
+//! Lines of numbers, as in AIGER's ASCII format.
 ghost use Rattle.std.specs.Prelude.{◌≡◌, ◌+◌, ◌-◌, ◌≤◌, ◌<◌, ◌^◌, ◌++◌, ◌∷◌, ℕ, List, [], length, map, decimal};
 ghost use Rattle.std.specs.List.{flat_map};
 ghost use Rattle.can_gates.specs.Aiger.{aiger_text, gate_numbers, header, input_lines, line_text, numbers_in, numbers_behind, output_numbers, register_lines};
@@ -11,7 +11,7 @@ use crate::files::text::Text;
 use crate::literal::{Literal, bit_of};
 use crate::register::Register;
 
-/// Appends all lines of numbers of a circuit whose last inputs are what these registers hold, in their order.
+/// Appends all lines of numbers of a circuit. Its last inputs are the values of these registers, in their order.
 pub(crate) fn push_numbers(
     text: &mut Text,
     circuit: &Circuit,
@@ -30,7 +30,7 @@ pub(crate) fn push_numbers(
     push_gates(text, circuit.gates());
 }
 
-/// Appends the first line, behind the format's name.
+/// Appends the first line, after the name of the format.
 pub(crate) fn push_header(
     text: &mut Text,
     circuit: &Circuit,
@@ -50,7 +50,7 @@ pub(crate) fn push_header(
     );
 }
 
-/// Appends the lines of the first signals, so many.
+/// Appends the lines of the first `inputs` signals.
 fn push_inputs(text: &mut Text, inputs: u64)
     requires { inputs < 2 ^ 32 }
     ensures { Writes text.old text.new (flat_map line_text (input_lines inputs)) }
@@ -60,7 +60,7 @@ fn push_inputs(text: &mut Text, inputs: u64)
     }
 }
 
-/// Appends the lines of registers that hold the signals behind this one.
+/// Appends the lines of registers, whose signals follow signal `before`.
 fn push_registers(text: &mut Text, before: u64, registers: &[Register])
     requires { before + length registers.now < 2 ^ 32 }
     ensures { Writes text.old text.new (flat_map line_text (register_lines before registers.now)) }
@@ -110,7 +110,8 @@ pub(crate) fn push_line(text: &mut Text, first: u64, others: &[u64])
     text.push(b"\n");
 }
 
-/// The text of lines, each with a number and all of them below 2^64, is read back as these lines. It does nothing.
+/// A reader recovers the lines of numbers of a text. Each line must have a number, and all numbers must be below 2^64.
+/// A law: it does nothing.
 pub fn lines_are_read_back()
     ensures { (lines : List (List ℕ)) → AreLines lines → numbers_in [] 0 (flat_map line_text lines) ≡ lines }
 {}

@@ -8,7 +8,7 @@ use crate::files::text::Text;
 use crate::files::words::Bit;
 use crate::literal::Literal;
 
-/// Appends a literal's signal, behind a sign where it is negated.
+/// Appends the signal of a literal, after a `~` if it is negated.
 pub(crate) fn push_literal(text: &mut Text, literal: Literal)
     ensures { Writes text.old text.new (literal_text literal) }
 {
@@ -17,7 +17,7 @@ pub(crate) fn push_literal(text: &mut Text, literal: Literal)
     text.push_number(u64::from(literal.signal));
 }
 
-/// Appends a literal's name.
+/// Appends the name of a literal.
 pub(crate) fn push_bit(text: &mut Text, bit: &Bit<'_>)
     ensures { Writes text.old text.new (bit_text bit.now) }
 {
@@ -25,7 +25,7 @@ pub(crate) fn push_bit(text: &mut Text, bit: &Bit<'_>)
     push_place(text, bit.place);
 }
 
-/// Appends a place behind a name.
+/// Appends the index after a name, if there is one.
 fn push_place(text: &mut Text, place: Option<u32>)
     ensures { Writes text.old text.new (place_text place) }
 {
@@ -34,7 +34,7 @@ fn push_place(text: &mut Text, place: Option<u32>)
     }
 }
 
-/// Appends a place in brackets.
+/// Appends an index in brackets.
 fn push_index(text: &mut Text, place: u32)
     ensures { Writes text.old text.new (codes "[" ++ (decimal place ++ codes "]")) }
 {

@@ -14,7 +14,7 @@ use crate::literal::{FALSE, Literal};
 use crate::register::Register;
 use crate::words::literal_at;
 
-/// Appends a wire for each name of an input or a register: of the signals from 1 on.
+/// Appends a wire for each name of an input or a register: signals 1, 2 and so on.
 pub(crate) fn push_signals(text: &mut Text, bits: &AllBits<'_>)
     ensures { Writes text.old text.new (flat_map statement_text (wires 1 (bits.now.inputs.items ++ bits.now.registers.items))) }
 {
@@ -22,7 +22,7 @@ pub(crate) fn push_signals(text: &mut Text, bits: &AllBits<'_>)
     push_wires(text, 1 + bits.inputs.len() as u64, &bits.registers);
 }
 
-/// Appends a wire for each of these names: of the signals from this one on.
+/// Appends a wire for each of these names: signals `first`, `first` + 1 and so on.
 fn push_wires(text: &mut Text, first: u64, bits: &[Bit<'_>])
     requires { first + length bits.now < 2 ^ 64 }
     ensures { Writes text.old text.new (flat_map statement_text (wires first bits.now)) }
@@ -67,7 +67,7 @@ fn push_gate(text: &mut Text, gate: Gate)
     text.push(b";\n");
 }
 
-/// Appends what each of these names is assigned: the output at its place.
+/// Appends the assignment of each of these names: the output with its index.
 pub(crate) fn push_assigns(text: &mut Text, bits: &[Bit<'_>], outputs: &[Literal])
     ensures { Writes text.old text.new (flat_map statement_text (assigns 0 bits.now outputs.now)) }
 {
@@ -78,7 +78,7 @@ pub(crate) fn push_assigns(text: &mut Text, bits: &[Bit<'_>], outputs: &[Literal
     }
 }
 
-/// Appends that this literal is assigned to this name.
+/// Appends the assignment of a literal to a name.
 fn push_assign(text: &mut Text, bit: &Bit<'_>, literal: Literal)
     ensures { Writes text.old text.new (statement_text (Assign (bit_text bit.now) literal)) }
 {
@@ -89,7 +89,7 @@ fn push_assign(text: &mut Text, bit: &Bit<'_>, literal: Literal)
     text.push(b";\n");
 }
 
-/// Appends what each of these names takes: what the register at its place does.
+/// Appends the next value of each of these names: that of the register with its index.
 pub(crate) fn push_takes(text: &mut Text, bits: &[Bit<'_>], registers: &[Register])
     ensures { Writes text.old text.new (flat_map statement_text (takes 0 bits.now registers.now)) }
 {
@@ -100,7 +100,7 @@ pub(crate) fn push_takes(text: &mut Text, bits: &[Bit<'_>], registers: &[Registe
     }
 }
 
-/// Appends that this name takes this literal.
+/// Appends the next value of a name.
 fn push_take(text: &mut Text, bit: &Bit<'_>, literal: Literal)
     ensures { Writes text.old text.new (statement_text (Take (bit_text bit.now) literal)) }
 {
@@ -110,7 +110,7 @@ fn push_take(text: &mut Text, bit: &Bit<'_>, literal: Literal)
     text.push(b";\n");
 }
 
-/// What the register at a place takes.
+/// The next value of the register with this index.
 fn next_at(registers: &[Register], place: usize) -> Literal
     ensures { result ≡ next_of registers.now place }
 {
@@ -120,8 +120,8 @@ fn next_at(registers: &[Register], place: usize) -> Literal
     }
 }
 
-/// The text of statements, whose names have no blank, no semicolon and no end of a line, is read back as these. It does
-/// nothing.
+/// A reader recovers the statements of a text. No name may have a space, a semicolon or a newline, and numbers must be
+/// below 2^64. A law: it does nothing.
 pub fn statements_are_read_back()
     ensures { (statements : List Statement) → AreProper statements → map statement_in (words_by_line [] [] (flat_map statement_text statements)) ≡ map Some statements }
 {}

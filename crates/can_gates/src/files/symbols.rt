@@ -63,7 +63,7 @@ fn push_meanings(text: &mut Text, words: &[Word<'_>])
     }
 }
 
-/// Appends a name and its meaning in a line.
+/// Appends a line with a name and its meaning.
 fn push_meaning(text: &mut Text, name: &str, meaning: &str)
     ensures { Writes text.old text.new (meaning_line name.now meaning.now) }
 {
@@ -73,7 +73,8 @@ fn push_meaning(text: &mut Text, name: &str, meaning: &str)
     text.push(b"\n");
 }
 
-/// The lines of names that have no blank, no semicolon and no end of a line are read back. It does nothing.
+/// A reader recovers the lines of names. No name may have a space, a semicolon or a newline, and indices must be below
+/// 2^64. A law: it does nothing.
 pub fn symbols_are_read_back()
     ensures { (s : List Symbol) → AreSymbols s → words_by_line [] [] (flat_map symbol_text s) ≡ map symbol_words s }
 {}

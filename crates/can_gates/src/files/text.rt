@@ -5,18 +5,18 @@ ghost use Rattle.can_gates.specs.Texts.{Writes};
 use itoa::Buffer;
 use std::alloc::{AllocError, Global};
 
-/// A text. A piece for which there is no memory isn't written, and the text isn't complete from then on: so a piece is
-/// written by a call that can't fail, and [`Text::finished`] is asked once, behind the last.
+/// A text. If an allocation fails, the piece is not written, and the text is incomplete from then on. So calls that
+/// write pieces cannot fail, and [`Text::finished`] is called once, after the last piece.
 #[derive(Drop)]
 pub(crate) struct Text {
-    /// What is written so far.
+    /// What has been written.
     bytes: Vec<u8>,
     /// Whether all pieces are in it.
     complete: bool,
 }
 
 impl Text {
-    /// A text with no piece yet.
+    /// A text without pieces.
     pub(crate) fn new(alloc: Global) -> Text
         ensures { result.bytes.items ≡ [] }
     {
@@ -50,7 +50,7 @@ impl Text {
         self.push(buffer.format(number).as_bytes());
     }
 
-    /// The whole text, where there was memory for each piece.
+    /// The whole text, if there was memory for each piece.
     pub(crate) fn finished(self) -> Result<Vec<u8>, AllocError>
         ensures { IfOk result (λ r. (self.complete ≡ true) × (r.items ≡ self.bytes.items)) }
     {

@@ -22,9 +22,10 @@ use crate::literal::Literal;
 use crate::register::Register;
 use std::alloc::Global;
 
-/// A module: a circuit whose last inputs are what these registers hold, in their order. What comes in behind its
-/// clock, and what the registers hold, has these names in the order of the circuit's inputs. It refuses a circuit
-/// that lacks a gate with the reason that the circuit has, and a complete one only if memory was refused.
+/// Returns a Verilog module of a circuit. The last inputs of the circuit are the values of these registers, in their
+/// order. The names of the module's inputs, which follow the clock, and of its registers are in the order of the
+/// circuit's inputs. A circuit that lacks a gate is refused with its reason; a complete one only if an allocation
+/// fails.
 pub fn verilog_file(
     alloc: Global,
     names: &Names<'_>,
@@ -49,7 +50,7 @@ pub fn verilog_file(
     Ok(text.finished()?)
 }
 
-/// Appends what the registers of these names take with each step, and the module's end.
+/// Appends the next values of the registers with these names, and the end of the module.
 fn push_steps(text: &mut Text, held: &[Bit<'_>], registers: &[Register])
     ensures { Writes text.old text.new (steps_text held.now registers.now) }
 {
@@ -58,7 +59,7 @@ fn push_steps(text: &mut Text, held: &[Bit<'_>], registers: &[Register])
     text.push(b"end\nendmodule\n");
 }
 
-/// Appends what stands before the statements.
+/// Appends the text before the statements.
 #[tactic(auto, unfolding(crate::specs::Verilog::head_text))]
 fn push_head(text: &mut Text, names: &Names<'_>)
     ensures { Writes text.old text.new (head_text names.now) }
@@ -69,7 +70,7 @@ fn push_head(text: &mut Text, names: &Names<'_>)
     push_all_declarations(text, names);
 }
 
-/// Appends what the module is, and its beginning.
+/// Appends the comment with the module's meaning, and its beginning.
 fn push_title(text: &mut Text, names: &Names<'_>)
     ensures { Writes text.old text.new (title_text names.now) }
 {
@@ -91,7 +92,7 @@ fn push_all_declarations(text: &mut Text, names: &Names<'_>)
     text.push(b"wire n0 = 1'b0;\n");
 }
 
-/// Appends the names of words, behind others.
+/// Appends the names of words, each after a comma.
 fn push_ports(text: &mut Text, words: &[Word<'_>])
     ensures { Writes text.old text.new (flat_map port_text words.now) }
 {
@@ -110,7 +111,7 @@ fn push_declarations(text: &mut Text, kind: &str, words: &[Word<'_>])
     }
 }
 
-/// Appends that of a word.
+/// Appends the declaration of a word.
 fn push_declaration(text: &mut Text, kind: &str, word: &Word<'_>)
     ensures { Writes text.old text.new (declaration_text kind.now word.now) }
 {
@@ -122,7 +123,7 @@ fn push_declaration(text: &mut Text, kind: &str, word: &Word<'_>)
     text.push(b"\n");
 }
 
-/// Appends the places of a word, between a kind and a name.
+/// Appends the range of a word, between a kind and a name.
 fn push_width(text: &mut Text, places: u32)
     ensures { Writes text.old text.new (width_text places) }
 {
@@ -133,7 +134,7 @@ fn push_width(text: &mut Text, places: u32)
     }
 }
 
-/// Appends places, the highest of which is this one.
+/// Appends a range whose highest index is this one.
 fn push_range(text: &mut Text, highest: u32)
     ensures { Writes text.old text.new (codes " [" ++ (decimal highest ++ codes ":0] ")) }
 {
@@ -142,8 +143,8 @@ fn push_range(text: &mut Text, highest: u32)
     text.push(b":0] ");
 }
 
-/// Each line of a module is read back, where names and their meanings are readable, and the numbers of the circuit below 2^64.
-/// It does nothing.
+/// A reader recovers each line of a module. Names and meanings must be readable, and the numbers of the circuit below
+/// 2^64. A law: it does nothing.
 pub fn modules_are_read_back()
     ensures { (n : AllNames) (c : CircuitParts) (registers : List RegisterParts) (outputs : List Side) → AreReadable n → AreLines (file_lines c registers outputs)
         → read_module (verilog_text n c registers outputs) ≡ module_lines n c registers outputs }

@@ -6,14 +6,14 @@ ghost use Rattle.can_gates.specs.Texts.{AreBitsOf};
 
 use std::alloc::{AllocError, Global};
 
-/// A name of literals that stand side by side, the lowest place of their number first.
+/// A name of several literals, the lowest bit of their number first.
 #[derive(Clone, Copy)]
 pub struct Word<'a> {
-    /// The name, which Verilog takes as one.
+    /// The name, which must be one name of Verilog.
     pub name: &'a str,
-    /// How many literals have it. One alone has the name with no place behind it.
+    /// How many literals have it. A single one has the name without an index.
     pub places: u32,
-    /// What it means, in one line.
+    /// Its meaning, in one line.
     pub meaning: &'a str,
 }
 
@@ -22,38 +22,38 @@ pub struct Word<'a> {
 pub struct Names<'a> {
     /// The circuit's own name.
     pub circuit: &'a str,
-    /// What it is, in one line.
+    /// Its meaning, in one line.
     pub meaning: &'a str,
-    /// What it takes.
+    /// Its inputs.
     pub inputs: &'a [Word<'a>],
-    /// What it holds.
+    /// Its registers.
     pub registers: &'a [Word<'a>],
-    /// What it gives.
+    /// Its outputs.
     pub outputs: &'a [Word<'a>],
 }
 
-/// One literal's name.
+/// The name of one literal.
 #[derive(Clone, Copy)]
 pub(crate) struct Bit<'a> {
     /// The word's name.
     pub(crate) name: &'a str,
-    /// The literal's place, where the word has others.
+    /// The index of the literal, if the word has several.
     pub(crate) place: Option<u32>,
 }
 
 /// The name of each literal that a file names.
 #[derive(Drop)]
 pub(crate) struct AllBits<'a> {
-    /// Of what a circuit takes.
+    /// Of the inputs of a circuit.
     pub(crate) inputs: Vec<Bit<'a>>,
-    /// Of what it holds.
+    /// Of its registers.
     pub(crate) registers: Vec<Bit<'a>>,
-    /// Of what it gives.
+    /// Of its outputs.
     pub(crate) outputs: Vec<Bit<'a>>,
 }
 
 impl<'a> AllBits<'a> {
-    /// Those of these names.
+    /// The names of the bits of these words.
     pub(crate) fn new(alloc: Global, names: &Names<'a>) -> Result<AllBits<'a>, AllocError>
         ensures { IfOk result (AreBitsOf names.now) }
     {
@@ -90,7 +90,7 @@ fn push_bits<'a>(out: &mut Vec<Bit<'a>>, word: &Word<'a>) -> Result<(), AllocErr
     Ok(())
 }
 
-/// Appends the name of each literal of a word, with its place.
+/// Appends the name of each literal of a word, with its index.
 fn push_numbered<'a>(out: &mut Vec<Bit<'a>>, word: &Word<'a>) -> Result<(), AllocError>
     ensures { OnOk result (out.new.items ≡ out.old.items ++ numbered word.now word.now.places) }
 {

@@ -14,7 +14,7 @@ use crate::senses::Senses;
 use crate::wires::{Row, Wires};
 use can_gates::{Circuit, FALSE, TRUE};
 
-/// A controller that isn't on the bus yet.
+/// A controller during bus integration.
 pub(crate) fn joining(circuit: &mut Circuit, senses: &Senses) -> Wires
     ensures { Makes circuit.old circuit.new (λ v. (n : ℕ) → ShowsMove v senses.now result (Joining n)) }
 {
@@ -38,7 +38,7 @@ pub(crate) fn idle(circuit: &mut Circuit, senses: &Senses) -> Wires
     let kind = Nibble::of(BIT_ERROR);
     let own = senses.begins_frame(TRUE);
     let other = senses.begins_frame(FALSE);
-    // its own start of frame is not on the bus
+    // its own start of frame does not appear on the bus
     let unheard = senses.errs_by(TRUE, cause, kind);
     let stays = senses.goes(IDLE, zero, UNCOUNTED, UNTOLD);
     let rows = [

@@ -80,7 +80,7 @@ pub(crate) fn after_flag(circuit: &mut Circuit, senses: &Senses) -> Wires
     first_row(circuit, &rows, blamed)
 }
 
-/// The delimiter behind a flag.
+/// The delimiter after a flag.
 pub(crate) fn delimiter(circuit: &mut Circuit, senses: &Senses) -> Wires
     ensures { Makes circuit.old circuit.new (λ v. (n : ℕ) → ShowsMove v senses.now result (Delimiter n)) }
 {

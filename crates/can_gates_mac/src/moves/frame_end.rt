@@ -17,7 +17,7 @@ use crate::senses::Senses;
 use crate::wires::{Row, Wires};
 use can_gates::{Circuit, TRUE};
 
-/// The last place of the end of frame.
+/// The last bit of the end of frame.
 const LAST_OF_FRAME: u8 = 6;
 
 /// The CRC delimiter.

@@ -1,4 +1,4 @@
-//! The stuffed part of a frame, by what is read of its front. (Bosch CAN 2.0 part B, sections 3.2.1, 6, 7.1 and 8)
+//! The stuffed part of a frame, from what has been received of it. (Bosch CAN 2.0 part B, sections 3.2.1, 6, 7.1 and 8)
 ghost use Rattle.std.specs.Prelude.{◌≡◌, ℕ, Bool};
 ghost use Rattle.can_gates.specs.Circuit.{Makes};
 ghost use Rattle.can_gates_mac.specs.Shows.{ShowsPart};

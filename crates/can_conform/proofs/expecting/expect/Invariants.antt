@@ -7,7 +7,7 @@ use Rattle.can_conform.proofs.Growing.{IsToldUpTo}
 use Rattle.can_node.proofs.NodePort.{node_port}
 use Rattle.can_conform.proofs.expecting.expect.Given as goal
 
--- the reference stands before this bit time, and the transcript tells all before it
+-- the reference is in its state before this bit time, and the transcript has everything before it
 abbrev pub invariant-loop-time : goal.invariant-loop-time
 invariant-loop-time l = record {
   port : node_port l.bench.node ≡ before l.script l.time;

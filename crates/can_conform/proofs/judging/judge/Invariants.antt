@@ -5,7 +5,7 @@ use Rattle.can_conform.specs.Walks.{Foresees, HasReached, IsStanding}
 use Rattle.can_node.proofs.NodePort.{node_port}
 use Rattle.can_conform.proofs.judging.judge.Given as goal
 
--- the reference stands before this bit time, and all agrees before it
+-- the reference is in its state before this bit time, and everything before agrees
 abbrev pub invariant-loop-time : goal.invariant-loop-time
 invariant-loop-time l = record {
   stands : IsStanding l.script l.time (node_port l.bench.node) l.watch.rule l.watch.since;

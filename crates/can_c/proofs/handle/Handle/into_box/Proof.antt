@@ -1,4 +1,4 @@
--- `into_box` makes a box of what a handle owns, where it is live.
+-- `into_box` makes a box of what a handle owns, if it is live.
 use Rattle.std.proofs.Common.{◌≡◌, List, [], ◌∷◌, ◌++◌, refl, sym, ap, lit<}
 use mathlib.Core.Bool.{Bool, true, false}
 use seplogic.Ra.Ura.{Ura}
