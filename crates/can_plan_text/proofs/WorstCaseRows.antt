@@ -1,4 +1,4 @@
--- The times of a worst case's offers, computed on numbers worked out by hand.
+-- Hand-computed test vectors for the times of a worst case's offers.
 use Rattle.std.proofs.Common.{◌≡◌, ℕ, [], ◌∷◌, refl}
 use Rattle.can_plan.specs.declared.message.Message.{Message}
 use Rattle.can_plan_text.specs.Worst.{offer_times}
