@@ -64,6 +64,7 @@ plain_time time = record {
   brought = brought_code time.brought;
 }
 
+-- the plain fields of bit times
 abbrev pub plain_times : List PortTime → List PlainTime
 plain_times times = map plain_time times
 

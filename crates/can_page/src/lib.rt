@@ -14,7 +14,7 @@
 //! | `plain.rt` | [`PlainTime`], what a port does in a bit time, and [`WrongField`], what is wrong in a scenario or a network, as plain fields | `specs/Plain.antt` |
 //! | `plans.rt` | [`page_plan`], the worst-case response times of the messages of a network | `specs/Calls.antt` |
 //! | `scenarios.rt` | [`page_run`], the report of a scenario, [`page_port_times`], what one of its ports does in each bit time, and [`page_all_port_times`], what all of them do | `specs/Calls.antt` |
-//! | `text.rt` | `Text`, bytes to read, where a read never fails | `specs/Texts.antt` |
+//! | `text.rt` | `Text`, bytes to read; a read never fails | `specs/Texts.antt` |
 //! | `traces.rt` | [`page_decode`] and [`page_decode_levels`], the frames and faults in a trace, given as text or as levels, and [`page_levels`], the levels of such a text | `specs/Calls.antt` |
 //! | `wires.rt` | [`page_marks`], the field of each level of a frame | `specs/Calls.antt` |
 //! | `worst.rt` | [`page_worst_case`], the worst case of a message of a network, as a scenario | `specs/Calls.antt` |

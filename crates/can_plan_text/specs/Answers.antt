@@ -33,8 +33,8 @@ is_late v = misses_deadline v.planned.deadline v.bound
 abbrev pub late_in : List Verdict → ℕ
 late_in verdicts = count_by is_late verdicts
 
--- the verdict on the message at a place: how long lower-priority messages block it, and its least bound, if the analysis finds
--- one
+-- On each course of the bus, if releases keep to the messages, and hits to the error model: the wire of each frame of a message
+-- that is not late ends within the deadline after its release.
 pub record IsPlanVerdict (plan : Plan) (place : ℕ) (v : Verdict) : Type 0 where
   pub block : v.blocking ≡ blocking (ranking_at (messages_of plan.messages.items) place v.planned.message)
   pub least : let ranking : Ranking = ranking_at (messages_of plan.messages.items) place v.planned.message in

@@ -91,8 +91,8 @@ plan_report rate analysis =
     first_line rate analysis.verdicts.items ++ (flat_map message_line analysis.verdicts.items ++
     (last_line analysis.verdicts.items ++ borne_line analysis.borne))
 
--- The output for a document: the document describes a network, the output is that of its analysis, `late` is the number of its
--- messages that may miss their deadline, and the others meet theirs.
+-- The output for a document, which describes a network. It is that of the network's analysis; `late` is the number of messages
+-- that may miss their deadline, and the others meet theirs.
 pub record IsAnswer (input output : List ℕ) (late : ℕ) : Type 0 where
   pub plan : Plan
   pub said : IsPlanText input plan

@@ -19,7 +19,7 @@
 //! | `answer.rt` | [`answered`] and [`answered_in`], from a document to the output | `specs/Report.antt`, `specs/Details.antt` |
 //! | `report.rt` | [`push_report`], the output as text | `specs/Report.antt` |
 //! | `details.rt`, `left_text.rt` | the output with details, as text | `specs/Details.antt` |
-//! | `laws.rt` | [`one_plan_field`]: bytes have at most one wrong field | `specs/Plans.antt` |
+//! | `laws.rt` | [`one_plan_field`]: at most one field of bytes counts as the wrong one | `specs/Plans.antt` |
 //! | `fault.rt` | [`PlanFault`], why a document is refused | |
 //! | `field.rt` | [`PlanField`], what is wrong in a document | |
 //! | `timelines.rt` | [`timeline`], from a network's document and the name of a message to the scenario | `specs/Timelines.antt` |

@@ -19,9 +19,9 @@ const START: u64 = 1;
 
 /// Returns the worst case of the message at this place. The messages are in the order of priority.
 ///
-/// The message and the higher-priority ones are offered together, and then as often as their periods and jitter allow,
-/// as long as the bus is busy with them. One of the longest frames of the lower-priority messages is offered one bit
-/// time earlier.
+/// The message and the higher-priority ones are offered together. While the bus is busy with them, they are offered as
+/// often as their periods and jitter allow. One of the longest frames of the lower-priority messages is offered one bit
+/// time before all of these.
 ///
 /// - `TooLong`: the bus is busy for longer than 999,999 bit times, or for ever.
 /// - `Memory`: memory ran out.

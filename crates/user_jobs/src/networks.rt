@@ -10,8 +10,8 @@ use std::alloc::{AllocError, Global};
 /// The greatest number of messages of a network.
 const MOST_MESSAGES: u32 = 512;
 
-/// A network: the number of its messages, their load in per cent, the spacing of hits (0 for no hits), and how many
-/// times as often one message may come as another at most.
+/// A network: the number of its messages, their load in per cent, and the spacing of hits, or 0 for no hits. The load
+/// of one message is at most `spread` times that of another.
 #[derive(Clone, Copy)]
 struct Plan {
     messages: u32,
