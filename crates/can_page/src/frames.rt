@@ -16,7 +16,7 @@ use can_wire::write_codes;
 
 /// Encodes the frame with this text: writes the levels that its transmitter drives, one byte each, and their number.
 ///
-/// - `levels` needs space for 157 levels, the most that a frame can have, whatever the text. This is tested first.
+/// - `levels` needs space for 157 levels, whatever the text: no frame has more. This is tested first.
 /// - If the bytes are not a frame text, the call returns the part that is wrong, and writes its place to `place`.
 ///
 /// A call that is refused writes nothing else.
