@@ -1,4 +1,4 @@
--- What a writer holds that held nothing before a report.
+-- The contents of a writer after a report, if it was empty before.
 use Rattle.std.proofs.Common.{◌≡◌, ℕ, Option, Some, None, IfSome, List, [], subst}
 use Rattle.std.specs.Io.KnownBytes.{Appends}
 use Rattle.can_trace.specs.Report.{report}

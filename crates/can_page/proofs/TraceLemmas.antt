@@ -12,7 +12,7 @@ pub record IsRead (text levels : List ℕ) (written index : ℕ) : Type 0 where
   pub levels_are : take written levels ≡ level_codes (levels_in (take index text))
   pub within : written ≤ index
 
--- the first bad byte stands behind those
+-- the first bad byte comes after those
 pub bad_byte : (text levels : List ℕ) (written index : ℕ) → IsRead text levels written index → index < length text → is_trace_byte (get_or text index 0) ≡ false → IsFirstBadTraceByte text index
 bad_byte text levels written index h l bad = record {
   before = take index text;
@@ -41,7 +41,7 @@ bad_in_front place front rest output d = record {
   decodes = d.decodes;
 }
 
--- what was written of a text that is read up to its first bad byte, by a writer that held nothing
+-- what was written for a text before its first bad byte, by a writer that was empty
 pub bad_told : (has left held holds : Option (List ℕ)) (place : ℕ) (input output : List ℕ) → Consumes has left input → held ≡ Some [] → Appends held holds output
     → DecodesToBadByte place input output → IfSome has (λ text. IfSome holds (λ lines. DecodesToBadByte place text lines))
 bad_told None left held holds place input output consumes empty appends decodes = tt

@@ -1,11 +1,12 @@
--- The numbers by which the page knows what a call answers. Those of frame texts are those of the codes X1 to X6 and
--- ten more. (docs/CODES.md)
+-- The numbers of the statuses that calls return. The number for a fault of a frame text is that of its code, X1 to X6,
+-- plus ten. (docs/CODES.md)
 use Rattle.std.specs.Prelude.{◌≡◌, ℕ}
 use Rattle.can_frame.specs.declared.text.TextFaultKind.{TextFaultKind}
 use Rattle.can_frame.specs.declared.text.TextFaultKind.TheVariants.{KindLetter, Identifier, DataOrRemote, Dlc, Data, Trailing}
 use Rattle.can_page.specs.declared.answer.Answer.{Answer}
 use Rattle.can_page.specs.declared.answer.Answer.TheVariants.{Done, NoRoom, BadLevel, BadIdentifier, BadDlc, BadCount, BadScenario, NoPort, NoMemory, BadPlan, NoMessage, LetterFault, IdentifierFault, DirectionFault, DlcFault, DataFault, TrailingFault, TooLong}
 
+-- the number of a status
 abbrev pub answer_code : Answer → ℕ
 answer_code Done = 0
 answer_code NoRoom = 1
@@ -26,19 +27,19 @@ answer_code DataFault = 15
 answer_code TrailingFault = 16
 answer_code TooLong = 17
 
--- the call has done what it says
+-- the call has done what it promises
 abbrev pub all_done : ℕ
 all_done = answer_code Done
 
--- there was too little room
+-- the output buffer is too small
 abbrev pub no_room : ℕ
 no_room = answer_code NoRoom
 
--- a byte or a number is no level's
+-- a byte or a number is not a level
 abbrev pub bad_level : ℕ
 bad_level = answer_code BadLevel
 
--- the frame's kind has no such identifier
+-- the identifier is out of range for the kind of frame
 abbrev pub bad_identifier : ℕ
 bad_identifier = answer_code BadIdentifier
 
@@ -46,15 +47,15 @@ bad_identifier = answer_code BadIdentifier
 abbrev pub bad_dlc : ℕ
 bad_dlc = answer_code BadDlc
 
--- the number of data bytes is not that of the DLC
+-- the number of data bytes is not the one that the DLC requires
 abbrev pub bad_count : ℕ
 bad_count = answer_code BadCount
 
--- the document says no scenario
+-- the text is not a valid scenario
 abbrev pub bad_scenario : ℕ
 bad_scenario = answer_code BadScenario
 
--- the scenario has no port of this number
+-- the scenario has no port with this number
 abbrev pub no_port : ℕ
 no_port = answer_code NoPort
 
@@ -62,11 +63,11 @@ no_port = answer_code NoPort
 abbrev pub no_memory : ℕ
 no_memory = answer_code NoMemory
 
--- the document says no network
+-- the text is not a valid network
 abbrev pub bad_plan : ℕ
 bad_plan = answer_code BadPlan
 
--- no message of the network has the name
+-- no message of the network has this name
 abbrev pub no_message : ℕ
 no_message = answer_code NoMessage
 
@@ -74,7 +75,7 @@ no_message = answer_code NoMessage
 abbrev pub too_long : ℕ
 too_long = answer_code TooLong
 
--- the answer for a fault of a frame text
+-- the status for a fault of a frame text
 abbrev pub text_answer : TextFaultKind → Answer
 text_answer KindLetter = LetterFault
 text_answer Identifier = IdentifierFault
@@ -83,6 +84,6 @@ text_answer Dlc = DlcFault
 text_answer Data = DataFault
 text_answer Trailing = TrailingFault
 
--- this is the answer for a fault of some frame text
+-- this is the number of the status for a fault of some frame text
 abbrev pub IsTextAnswer : ℕ → Type 0
 IsTextAnswer answer = (kind : TextFaultKind) × (answer ≡ answer_code (text_answer kind))

@@ -1,4 +1,4 @@
--- To believe: what public calls promise is said in these words
+-- To believe: the definitions in which public calls state what they promise
 pub mod Answers
 pub mod Codes
 pub mod Calls

@@ -1,4 +1,4 @@
--- The plain fields by which the page knows what a port does in a bit time, and what is wrong in a scenario or a network.
+-- The plain fields for what a port does in a bit time, and for what is wrong in a scenario or a network.
 use Rattle.std.specs.Prelude.{ℕ, List, map}
 use Rattle.can_mac.specs.Codes.{kind_code}
 use Rattle.can_plan_text.specs.declared.field.MessageField.{MessageField}
@@ -23,6 +23,7 @@ use Rattle.can_page.specs.declared.plain.WrongField.{WrongField}
 
 -- ---- a port in a bit time
 
+-- the number of a phase
 abbrev pub stage_code : Stage → ℕ
 stage_code stage.Joining = 0
 stage_code stage.Idle = 1
@@ -40,6 +41,7 @@ stage_code stage.Intermission = 12
 stage_code stage.Suspend = 13
 stage_code stage.BusOff = 14
 
+-- the number of an event
 abbrev pub brought_code : Brought → ℕ
 brought_code bring.Nothing = 0
 brought_code bring.Sent = 1
@@ -50,6 +52,7 @@ brought_code bring.Overload = 9
 brought_code bring.WentOff = 10
 brought_code bring.Recovered = 11
 
+-- the plain fields of a bit time of a port
 abbrev pub plain_time : PortTime → PlainTime
 plain_time time = record {
   transmit = time.transmit;
@@ -61,15 +64,17 @@ plain_time time = record {
   brought = brought_code time.brought;
 }
 
+-- the plain fields of bit times
 abbrev pub plain_times : List PortTime → List PlainTime
 plain_times times = map plain_time times
 
 -- ---- what is wrong in a scenario
 
--- the field, the port or the element of a list at the top, and the element of a port's queue
+-- the number of a field; the number of the port or message, or the place in a list; and the element of the port's queue
 abbrev pub wrong_at : ℕ → ℕ → ℕ → WrongField
 wrong_at code number element = record { field = code; number = number; element = element }
 
+-- a field of the port with this number
 abbrev pub wrong_in_port : ℕ → PortField → WrongField
 wrong_in_port number part.Table = wrong_at 5 number 0
 wrong_in_port number part.Unknown = wrong_at 6 number 0
@@ -79,16 +84,19 @@ wrong_in_port number part.Log = wrong_at 9 number 0
 wrong_in_port number part.Join = wrong_at 10 number 0
 wrong_in_port number part.Hold = wrong_at 11 number 0
 
+-- a list of injected bit errors
 abbrev pub wrong_list : HitList → WrongField
 wrong_list list.At = wrong_at 12 0 0
 wrong_list list.In = wrong_at 13 0 0
 wrong_list list.View = wrong_at 14 0 0
 
+-- an element of such a list
 abbrev pub wrong_hit : HitList → ℕ → WrongField
 wrong_hit list.At place = wrong_at 15 place 0
 wrong_hit list.In place = wrong_at 16 place 0
 wrong_hit list.View place = wrong_at 17 place 0
 
+-- a field of a scenario
 abbrev pub wrong_field : Field → WrongField
 wrong_field field.Document = wrong_at 0 0 0
 wrong_field field.Unknown = wrong_at 1 0 0
@@ -101,7 +109,7 @@ wrong_field (field.Hit hits place) = wrong_hit hits place
 
 -- ---- what is wrong in a network
 
--- the field, and the message
+-- a field of the message at this place
 abbrev pub wrong_in_message : ℕ → MessageField → WrongField
 wrong_in_message place of_message.Table = wrong_at 9 place 0
 wrong_in_message place of_message.Unknown = wrong_at 10 place 0
@@ -114,6 +122,7 @@ wrong_in_message place of_message.Repeated = wrong_at 16 place 0
 wrong_in_message place of_message.Name = wrong_at 17 place 0
 wrong_in_message place of_message.RepeatedName = wrong_at 18 place 0
 
+-- a field of a network
 abbrev pub wrong_in_plan : PlanField → WrongField
 wrong_in_plan plan.Document = wrong_at 0 0 0
 wrong_in_plan plan.Unknown = wrong_at 1 0 0

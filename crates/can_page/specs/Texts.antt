@@ -1,4 +1,4 @@
--- What a contract sees of bytes and levels that are read from the front.
+-- The model of bytes and levels that are read from the front.
 use Rattle.std.specs.Prelude.{ℕ, Bool, List}
 use Rattle.can_page.specs.Codes.{trace_text}
 use Rattle.can_page.specs.declared.levels.Levels.{Levels}
@@ -8,7 +8,7 @@ use Rattle.can_page.specs.declared.text.Text.{Text}
 abbrev pub unread : Text → List ℕ
 unread t = t.rest.now
 
--- whether a read came when none were left
+-- a read came when no bytes were left
 abbrev pub has_ended : Text → Bool
 has_ended t = t.ended
 
@@ -16,6 +16,6 @@ has_ended t = t.ended
 abbrev pub unread_digits : Levels → List ℕ
 unread_digits l = trace_text (unread l.codes)
 
--- whether a read came when no levels were left
+-- a read came when no levels were left
 abbrev pub levels_ended : Levels → Bool
 levels_ended l = has_ended l.codes

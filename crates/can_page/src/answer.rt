@@ -3,49 +3,49 @@ ghost use Rattle.can_page.specs.Answers.{answer_code, text_answer};
 
 use can_frame::TextFaultKind;
 
-/// What a call answers.
+/// The status that a call returns, as a number.
 #[derive(Clone, Copy, Debug, PartialEq, Eq)]
 pub enum Answer {
-    /// The call has done what it says.
+    /// The call has done what it promises.
     Done,
-    /// There is too little room for what is told.
+    /// The output buffer is too small.
     NoRoom,
-    /// A byte or a number that is no level's.
+    /// A byte of a trace, or a number, is not a level.
     BadLevel,
-    /// The frame's kind has no such identifier.
+    /// The identifier is out of range for the kind of frame.
     BadIdentifier,
     /// The DLC is above 15.
     BadDlc,
-    /// There are not as many data bytes as the DLC says.
+    /// The number of data bytes is not the one that the DLC requires.
     BadCount,
-    /// The document says no scenario.
+    /// The text is not a valid scenario.
     BadScenario,
-    /// The scenario has no port of this number.
+    /// The scenario has no port with this number.
     NoPort,
     /// Memory ran out.
     NoMemory,
-    /// The document says no network.
+    /// The text is not a valid network.
     BadPlan,
     /// No message of the network has this name.
     NoMessage,
-    /// A frame text is wrong in its kind letter.
+    /// The kind letter of a frame text is wrong.
     LetterFault,
-    /// A frame text is wrong in its identifier.
+    /// The identifier of a frame text is wrong.
     IdentifierFault,
-    /// A frame text is wrong where `D` or `R` should stand.
+    /// A frame text has neither `D` nor `R` in their place.
     DirectionFault,
-    /// A frame text is wrong in its DLC.
+    /// The DLC of a frame text is wrong.
     DlcFault,
-    /// A frame text is wrong in its data.
+    /// The data of a frame text are wrong.
     DataFault,
-    /// Bytes stand behind a frame text.
+    /// Bytes follow a frame text.
     TrailingFault,
     /// No scenario is long enough for the worst case of the message.
     TooLong,
 }
 
 impl Answer {
-    /// Its number.
+    /// Returns the number of this status.
     pub fn code(self) -> u8
         ensures { result ≡ answer_code self }
     {
@@ -71,7 +71,7 @@ impl Answer {
         }
     }
 
-    /// The answer for a fault of a frame text.
+    /// Returns the status for a fault of a frame text.
     pub(crate) fn of_text(kind: TextFaultKind) -> Answer
         ensures { result ≡ text_answer kind }
     {

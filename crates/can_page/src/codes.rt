@@ -1,10 +1,10 @@
-//! The numbers by which the page knows fields.
+//! The numbers of fields on the page.
 ghost use Rattle.std.specs.Prelude.{◌≡◌};
 ghost use Rattle.can_page.specs.Codes.{field_code as field_code_of};
 
 use can_fields::Field;
 
-/// The number of a field.
+/// Returns the number of a field.
 pub(crate) fn field_code(field: Field) -> u8
     ensures { result ≡ field_code_of field }
 {

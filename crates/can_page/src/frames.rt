@@ -14,11 +14,12 @@ use can_fields::MOST_LEVELS;
 use can_frame::{Frame, Id};
 use can_wire::write_codes;
 
-/// Writes the levels that the transmitter of the frame with this text drives, one byte each, and their number.
+/// Encodes the frame with this text: writes the levels that its transmitter drives, one byte each, and their number.
 ///
-/// `levels` needs room for 157 levels, as no frame has more, whatever the text; this is tested first. If the bytes are no
-/// frame text, the call returns the part in which the fault lies, and writes its place to `place`. A call that is refused
-/// writes nothing else.
+/// - `levels` needs space for 157 levels, whatever the text: no frame has more. This is tested first.
+/// - If the bytes are not a frame text, the call returns the part that is wrong, and writes its place to `place`.
+///
+/// A call that is refused writes nothing else.
 #[unsafe(no_mangle)]
 pub extern "C" fn page_encode(
     text: &[u8],
@@ -52,12 +53,11 @@ pub extern "C" fn page_encode(
     }
 }
 
-/// Writes the text of the frame with these parts, and the number of its bytes. A remote frame has no data bytes, and takes
-/// none.
+/// Writes the text of the frame with these parts, and the number of its bytes. A remote frame has no data bytes, and
+/// none are accepted for it.
 ///
-/// Identifier, DLC and number of data bytes are tested in this order, and then whether `text` has room for the text of
-/// the frame, which has 32 bytes at most. The call returns the first of these tests that fails. A call that is refused
-/// writes nothing.
+/// Tested in this order: the identifier, the DLC, the number of data bytes, and whether `text` has space for the text
+/// of the frame (at most 32 bytes). The call returns the first test that fails. A call that is refused writes nothing.
 #[unsafe(no_mangle)]
 pub extern "C" fn page_frame_text(
     identifier: u32,
@@ -95,7 +95,7 @@ pub extern "C" fn page_frame_text(
     }
 }
 
-/// The frame with these parts, or the first reason why there is none.
+/// Returns the frame with these parts, or the first reason why they are not those of a frame.
 fn frame_of(
     identifier: u32,
     extended: bool,
@@ -124,7 +124,7 @@ fn frame_of(
     Frame::data(id, dlc, bytes).map_err(|_| Answer::BadCount)
 }
 
-/// The identifier of this number and kind.
+/// Returns the identifier with this number and format, or `None` if it is out of range.
 fn id_of(identifier: u32, extended: bool) -> Option<Id>
     ensures none { IsNone result → ident_count extended ≤ identifier }
     ensures within { IfSome result (λ id. identifier < ident_count extended) }

@@ -5,7 +5,7 @@ use crate::text::Text;
 use can_stream::Source;
 use std::io;
 
-/// Levels by their numbers, which are read as the digits of a trace. A read never fails.
+/// Levels as numbers, read as the digits of a trace. A read never fails.
 #[derive(Drop)]
 pub(crate) struct Levels<'a> {
     codes: Text<'a>,
@@ -14,7 +14,7 @@ pub(crate) struct Levels<'a> {
 impl<'a> Levels<'a> {
     ghost use Rattle.can_page.specs.Texts.{levels_ended, unread_digits};
 
-    /// All of these levels, none of which is read yet.
+    /// Returns all of these levels, unread.
     pub(crate) fn new(codes: &'a [u8]) -> Levels<'a>
         ensures unread { unread_digits result ≡ trace_text codes.now }
         ensures unended { levels_ended result ≡ false }
@@ -49,7 +49,7 @@ impl<'a> Source for Levels<'a> {
     }
 }
 
-/// Writes the digit of each level in its place.
+/// Replaces the number of each level by its digit.
 fn write_digits(codes: &mut [u8])
     ensures { codes.new ≡ trace_text codes.old }
 {
@@ -58,7 +58,7 @@ fn write_digits(codes: &mut [u8])
     }
 }
 
-/// The digit of a level by its number; where it is no level's, a byte that may not stand in a trace.
+/// Returns the digit of a level, or for any other number a byte that a trace may not contain.
 fn trace_byte(code: u8) -> u8
     ensures { result ≡ trace_byte code }
 {

@@ -3,17 +3,16 @@ ghost use Rattle.std.specs.Prelude.{◌≡◌, [], false};
 use can_stream::Sink;
 use std::io;
 
-/// How many bytes there is room for.
+/// The capacity in bytes.
 pub const ROOM: usize = 33_554_432;
 
-/// The caller's room for lines of text: they stand in front, and `count` tells how many bytes they have. Each content
-/// is allowed.
+/// The caller's buffer for lines of text, which are its first `count` bytes. Any content is allowed.
 #[repr(C)]
 #[derive(Drop)]
 pub struct Lines {
     /// How many bytes are written.
     pub count: usize,
-    /// Whether bytes came when all the room was taken.
+    /// Whether more bytes came when the buffer was full.
     pub full: bool,
     /// The bytes.
     pub bytes: [u8; ROOM],
@@ -22,7 +21,7 @@ pub struct Lines {
 impl Lines {
     ghost use Rattle.can_page.specs.Lines.{is_overfull, written_lines};
 
-    /// No bytes are written.
+    /// Empties the buffer.
     pub(crate) fn clear(&mut self)
         ensures lines { written_lines self.new ≡ [] }
         ensures full { is_overfull self.new ≡ false }

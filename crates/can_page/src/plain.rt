@@ -10,19 +10,19 @@ use can_trace::{Field, HitList, PortField};
 #[repr(C)]
 #[derive(Clone, Copy, Debug)]
 pub struct PlainTime {
-    /// The transmit error counter as the bit time begins.
+    /// The transmit error counter at the beginning of the bit time.
     pub transmit: u16,
-    /// The receive error counter.
+    /// The receive error counter at the beginning of the bit time.
     pub receive: u16,
     /// The number of its phase.
     pub stage: u8,
-    /// 1 where it is the sender of the frame on the bus.
+    /// 1 if it is the transmitter of the frame on the bus, otherwise 0.
     pub sends: u8,
     /// The number of the level that it drives.
     pub drove: u8,
-    /// The number of the level that it sees.
+    /// The number of the level that it samples.
     pub saw: u8,
-    /// The number of what the bit time brings.
+    /// The number of the event of the bit time.
     pub brought: u8,
 }
 
@@ -30,16 +30,16 @@ pub struct PlainTime {
 #[repr(C)]
 #[derive(Clone, Copy, Debug)]
 pub struct WrongField {
-    /// The port, the place in a list of disturbances, or the message, where the field is one of those.
+    /// The port, the place in a list of injected bit errors, or the message, if the field belongs to one.
     pub number: usize,
-    /// The element of the port's queue, where the field is that.
+    /// The element of the port's queue, if the field is one.
     pub element: usize,
     /// The number of the field.
     pub field: u8,
 }
 
 impl PlainTime {
-    /// A bit time of a port.
+    /// Returns the plain fields of a bit time of a port.
     pub(crate) fn of(time: &PortTime) -> PlainTime
         ensures { result ≡ plain_time time.now }
     {
@@ -56,7 +56,7 @@ impl PlainTime {
 }
 
 impl WrongField {
-    /// This field.
+    /// Returns the plain fields for this field of a scenario.
     pub(crate) fn of(field: Field) -> WrongField
         ensures { result ≡ wrong_field field }
     {
@@ -72,12 +72,12 @@ impl WrongField {
         }
     }
 
-    /// Nothing is wrong yet.
+    /// Returns plain fields for the time before a call writes them.
     pub(crate) fn none() -> WrongField {
         WrongField::at(0, 0, 0)
     }
 
-    /// A field of a port.
+    /// Returns the plain fields for a field of a port.
     fn in_port(number: usize, part: PortField) -> WrongField
         ensures { result ≡ wrong_in_port number part }
     {
@@ -92,7 +92,7 @@ impl WrongField {
         }
     }
 
-    /// A list of disturbances.
+    /// Returns the plain fields for a list of injected bit errors.
     fn in_list(list: HitList) -> WrongField
         ensures { result ≡ wrong_list list }
     {
@@ -103,7 +103,7 @@ impl WrongField {
         }
     }
 
-    /// An element of such a list.
+    /// Returns the plain fields for an element of such a list.
     fn in_hit(list: HitList, place: usize) -> WrongField
         ensures { result ≡ wrong_hit list place }
     {
@@ -114,7 +114,7 @@ impl WrongField {
         }
     }
 
-    /// This field of a network.
+    /// Returns the plain fields for this field of a network.
     pub(crate) fn in_plan(field: PlanField) -> WrongField
         ensures { result ≡ wrong_in_plan field }
     {
@@ -132,7 +132,7 @@ impl WrongField {
         }
     }
 
-    /// A field of a message.
+    /// Returns the plain fields for a field of a message.
     fn in_message(place: usize, part: MessageField) -> WrongField
         ensures { result ≡ wrong_in_message place part }
     {
@@ -150,7 +150,7 @@ impl WrongField {
         }
     }
 
-    /// The field of this number.
+    /// Returns the field with these numbers.
     fn at(field: u8, number: usize, element: usize) -> WrongField
         ensures { result ≡ wrong_at field number element }
     {
@@ -162,7 +162,7 @@ impl WrongField {
     }
 }
 
-/// The number of a phase.
+/// Returns the number of a phase.
 fn stage_code(stage: Stage) -> u8
     ensures { result ≡ stage_code_of stage }
 {
@@ -185,7 +185,7 @@ fn stage_code(stage: Stage) -> u8
     }
 }
 
-/// The number of what a bit time brings.
+/// Returns the number of an event.
 fn brought_code(brought: Brought) -> u8
     ensures { result ≡ brought_code_of brought }
 {

@@ -14,8 +14,9 @@ use can_plan_text::{Form, PlanFault, answered_in};
 use can_stream::{Sink, write_all};
 use std::alloc::Global;
 
-/// Answers the network that a document says: writes the lines of `canplan` to `out`, with what makes each bound or without,
-/// and tells how many messages may be late. Where the document says none, the first field that is wrong is told.
+/// Analyses the network in this text: writes the lines of `canplan` to `out`, with or without the parts of each bound,
+/// and to `late` how many messages may miss their deadline. If the text is not a valid network, the call writes the
+/// first wrong field to `wrong`.
 #[unsafe(no_mangle)]
 pub extern "C" fn page_plan(
     alloc: Global,
@@ -34,14 +35,14 @@ pub extern "C" fn page_plan(
     plan_onto(alloc, form(details), text, out, late, wrong).code()
 }
 
-/// The form of an answer, with details or without.
+/// Returns the form of the output, with details or without.
 fn form(details: bool) -> Form
     ensures { result ≡ form_of details }
 {
     if details { Form::Detailed } else { Form::Brief }
 }
 
-/// The same onto any sink that holds nothing.
+/// Does this for any sink, which must be empty.
 pub(crate) fn plan_onto<W: Sink>(
     alloc: Global,
     form: Form,

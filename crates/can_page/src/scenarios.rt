@@ -17,8 +17,8 @@ use can_stream::{Sink, TraceFault};
 use can_trace::{Scenario, run_scenario};
 use std::alloc::Global;
 
-/// Runs the scenario that a document says, and writes its report to `out`. Where the document says none, the first
-/// field that is wrong is told.
+/// Runs the scenario in this text, and writes its report to `out`. If the text is not a valid scenario, the call writes
+/// the first wrong field to `wrong`.
 #[unsafe(no_mangle)]
 pub extern "C" fn page_run(
     alloc: Global,
@@ -35,7 +35,7 @@ pub extern "C" fn page_run(
     run_onto(alloc, text, out, wrong).code()
 }
 
-/// The same onto any sink that holds nothing.
+/// Does this for any sink, which must be empty.
 pub(crate) fn run_onto<W: Sink>(
     alloc: Global,
     text: &[u8],
@@ -59,8 +59,8 @@ pub(crate) fn run_onto<W: Sink>(
     }
 }
 
-/// Writes what the port of this number does in each bit time of the scenario that a document says, and how many bit
-/// times these are.
+/// Writes what the port with this number does in each bit time of the scenario in this text, and the number of these
+/// bit times.
 #[unsafe(no_mangle)]
 pub extern "C" fn page_port_times(
     alloc: Global,
@@ -80,7 +80,7 @@ pub extern "C" fn page_port_times(
     tell_port_times(alloc, text, node, times, count).code()
 }
 
-/// The same, with its answer.
+/// Does this, and returns the status before it becomes a number.
 fn tell_port_times(
     alloc: Global,
     text: &[u8],
@@ -111,8 +111,8 @@ fn tell_port_times(
     }
 }
 
-/// Writes what each port does in each bit time of the scenario that a document says, port behind port, and how many
-/// times of ports these are. The bus runs once for all of them.
+/// Writes what each port does in each bit time of the scenario in this text, one port after another, and the number of
+/// these entries. The bus runs once for all ports.
 #[unsafe(no_mangle)]
 pub extern "C" fn page_all_port_times(
     alloc: Global,
@@ -129,7 +129,7 @@ pub extern "C" fn page_all_port_times(
     tell_all_port_times(alloc, text, times, count).code()
 }
 
-/// The same, with its answer.
+/// Does this, and returns the status before it becomes a number.
 fn tell_all_port_times(
     alloc: Global,
     text: &[u8],
@@ -154,7 +154,7 @@ fn tell_all_port_times(
     }
 }
 
-/// Writes what was told, and how many times of ports that are, if there is room for it.
+/// Writes these bit times and their number, if there is space for them.
 fn hand_over(told: &[PortTime], times: &mut [PlainTime], count: &mut usize) -> Answer
     ensures times { result ≡ Answer.Done → (take count.new times.new ≡ plain_times told.now) × (count.new ≡ length told.now) }
     ensures room { result ≡ Answer.NoRoom → length times.old < length told.now }
@@ -168,7 +168,7 @@ fn hand_over(told: &[PortTime], times: &mut [PlainTime], count: &mut usize) -> A
     Answer::Done
 }
 
-/// The scenario that a document says, or the first field that is wrong.
+/// Returns the scenario in this text, or writes the first wrong field to `wrong`.
 fn read(alloc: Global, text: &[u8], wrong: &mut WrongField) -> Result<Scenario, Answer>
     ensures found { IfOk result (IsScenarioText text.now) }
     ensures wrong { IsErrOf result Answer.BadScenario → (field : Wrong) × (IsWrongScenarioField field text.now × (wrong.new ≡ wrong_field field)) }
@@ -184,7 +184,7 @@ fn read(alloc: Global, text: &[u8], wrong: &mut WrongField) -> Result<Scenario, 
     }
 }
 
-/// Writes bit times in front of what stands there.
+/// Writes bit times over the first elements.
 fn write_times(told: &[PortTime], times: &mut [PlainTime])
     requires { length told.now ≤ length times.old }
     ensures { take (length told.now) times.new ≡ plain_times told.now }

@@ -3,7 +3,7 @@ ghost use Rattle.std.specs.Prelude.{false, Some};
 use can_stream::Source;
 use std::io;
 
-/// Bytes that are all there, to be read from the front. A read never fails.
+/// Bytes in memory, read from the front. A read never fails.
 #[derive(Drop)]
 pub(crate) struct Text<'a> {
     rest: &'a [u8],
@@ -14,7 +14,7 @@ impl<'a> Text<'a> {
     ghost use Rattle.std.specs.Prelude.{◌≡◌};
     ghost use Rattle.can_page.specs.Texts.{has_ended, unread};
 
-    /// All of these bytes, none of which is read yet.
+    /// Returns all of these bytes, unread.
     pub(crate) fn new(bytes: &'a [u8]) -> Text<'a>
         ensures unread { unread result ≡ bytes.now }
         ensures unended { has_ended result ≡ false }

@@ -13,9 +13,12 @@ use can_frame::Level;
 use can_stream::{Sink, Source, TraceFault};
 use can_texts::decode_stream;
 
-/// Finds the frames and the faults of a trace, and writes their lines to `out`. The answer is 0 where these are all.
-/// Where it is that of a bad byte, that byte's place in the text is told, and the lines are those of the levels before
-/// it. Where it is that of too little room, all the room is taken.
+/// Decodes a trace: writes a line for each of its frames and faults to `out`.
+///
+/// - 0: these are all lines.
+/// - `BadLevel`: a byte may not appear in a trace. Its place in the text is written to `place`; the lines are those of
+///   the levels before it.
+/// - `NoRoom`: `out` is full.
 #[unsafe(no_mangle)]
 pub extern "C" fn page_decode(text: &[u8], out: &mut Lines, place: &mut u64) -> u8
     ensures whole { result ≡ all_done → DecodesAll text.now (written_lines out.new) }
@@ -27,8 +30,8 @@ pub extern "C" fn page_decode(text: &[u8], out: &mut Lines, place: &mut u64) -> 
     decode_onto(&mut Text::new(text), out, place).code()
 }
 
-/// As [`page_decode`], of levels by their numbers, one byte each: 0 is dominant and 1 recessive, and each other byte is a
-/// bad one.
+/// Decodes levels as [`page_decode`] decodes a trace. Each level is one byte, 0 for dominant and 1 for recessive; any
+/// other byte is a bad one.
 #[unsafe(no_mangle)]
 pub extern "C" fn page_decode_levels(levels: &[u8], out: &mut Lines, place: &mut u64) -> u8
     ensures whole { result ≡ all_done → DecodesAll (trace_text levels.now) (written_lines out.new) }
@@ -40,7 +43,7 @@ pub extern "C" fn page_decode_levels(levels: &[u8], out: &mut Lines, place: &mut
     decode_onto(&mut Levels::new(levels), out, place).code()
 }
 
-/// The same from any source onto any sink that holds nothing.
+/// Does this for any source and any sink, which must be empty.
 pub(crate) fn decode_onto<R: Source, W: Sink>(trace: &mut R, out: &mut W, place: &mut u64) -> Answer
     requires source_unfailed { R.has_failed trace.old ≡ false }
     requires unended { R.has_ended trace.old ≡ false }
@@ -66,9 +69,9 @@ pub(crate) fn decode_onto<R: Source, W: Sink>(trace: &mut R, out: &mut W, place:
 
 /// Writes the levels of a trace, one byte each, and their number.
 ///
-/// `levels` needs room for one level for each byte of the text, also for those that are skipped; this is tested first,
-/// and in too little room nothing is written but the number 0. If a byte may not appear in a trace, the call writes its
-/// place in the text to `place`, and the levels before it.
+/// `levels` needs space for one level for each byte of the text, also for those that are skipped. This is tested first;
+/// if there is too little space, the call writes only the number 0. If a byte may not appear in a trace, the call
+/// writes the levels before it, and its place in the text to `place`.
 #[unsafe(no_mangle)]
 pub extern "C" fn page_levels(
     text: &[u8],
@@ -110,11 +113,11 @@ pub extern "C" fn page_levels(
     Answer::Done.code()
 }
 
-/// A byte that may not stand in trace text.
+/// A byte that trace text may not contain.
 #[derive(Drop)]
 struct BadByte;
 
-/// The level of a byte of trace text, where it is a digit: a blank and a line end have none.
+/// Returns the level of a byte of trace text if it is a digit. Spaces and line ends have none.
 fn read_byte(byte: u8) -> Result<Option<Level>, BadByte>
     ensures may_stand { OnOk result (is_trace_byte byte ≡ true) }
     ensures levels { IfOk result (λ level. levels_of_byte byte ≡ option_to_list level) }

@@ -9,12 +9,12 @@ use crate::codes::field_code;
 use can_fields::{MOST_LEVELS, Mark, marks};
 use can_wire::front_of_codes;
 
-/// Writes the number of the field in which each of the first 157 levels is, whether the level is a stuff bit, and of how
-/// many levels this is written. No frame has more levels, and numbers after the first 157 are not read.
+/// Writes, for each of the first 157 levels, the number of its field and whether it is a stuff bit, and the number of
+/// these levels. No frame has more than 157 levels, and numbers after them are not read.
 ///
-/// `fields` and `stuffed` need room for 157 levels each, however few there are; this is tested first. The numbers of
-/// levels are 0, dominant, and 1, recessive: if one of the first 157 is another, the call returns this. A call that is
-/// refused writes nothing.
+/// `fields` and `stuffed` need space for 157 levels each, even if there are fewer. This is tested first. The numbers of
+/// levels are 0, dominant, and 1, recessive; if one of the first 157 is not a level, the call returns this. A call that
+/// is refused writes nothing.
 #[unsafe(no_mangle)]
 pub extern "C" fn page_marks(
     levels: &[u8],
@@ -44,7 +44,7 @@ pub extern "C" fn page_marks(
     Answer::Done.code()
 }
 
-/// Writes the numbers of the fields in front of what stands there.
+/// Writes the numbers of the fields over the first elements.
 fn write_fields(marks: &[Mark], fields: &mut [u8])
     requires { length marks.now ≤ length fields.old }
     ensures { take (length marks.now) fields.new ≡ field_codes marks.now }
@@ -54,7 +54,7 @@ fn write_fields(marks: &[Mark], fields: &mut [u8])
     }
 }
 
-/// Writes which levels are stuff bits in front of what stands there.
+/// Writes which levels are stuff bits over the first elements.
 fn write_stuffed(marks: &[Mark], stuffed: &mut [u8])
     requires { length marks.now ≤ length stuffed.old }
     ensures { take (length marks.now) stuffed.new ≡ stuff_codes marks.now }

@@ -13,9 +13,9 @@ use can_plan_text::{WorstFault, timeline};
 use can_stream::{Sink, write_all};
 use std::alloc::Global;
 
-/// Writes the scenario of the worst case of a message to `out`, where nothing is hit, for the network that a document says.
-/// The message is named by a frame's text up to the blank before its DLC. Where the document says no network, the first
-/// field that is wrong is told.
+/// Writes the scenario of the worst case of a message to `out`, without injected bit errors, for the network in this
+/// text. The message is named by the text of one of its frames before the space and the DLC. If the text is not a valid
+/// network, the call writes the first wrong field to `wrong`.
 #[unsafe(no_mangle)]
 pub extern "C" fn page_worst_case(
     alloc: Global,
@@ -35,7 +35,7 @@ pub extern "C" fn page_worst_case(
     worst_case_onto(alloc, text, name, out, wrong).code()
 }
 
-/// The same onto any sink that holds nothing.
+/// Does this for any sink, which must be empty.
 fn worst_case_onto<W: Sink>(
     alloc: Global,
     text: &[u8],

@@ -64,9 +64,9 @@ module _ (delay : ℕ) (p : Planned) (early : p.message.jitter ≤ delay) (f : P
         apart = λ i j a b less at_a at_b. let within = slice_get_within (one ∷ []) j b at_b in absurd (omega (arith, less, within));
       }
 
--- ---- a level, and what blocks it
+-- ---- a priority level, and what blocks it
 
--- releases that are offered so many bit times later than these frames
+-- releases that are offered `delay` bit times later than these frames
 pub record HaveRuns (delay : ℕ) (ms : List Message) (sequences : List Sequence) : Type 0 where
   pub runs : List (List Release)
   pub paired : ArePaired IsRun ms runs
@@ -96,7 +96,7 @@ level-runs delay long (p ∷ level) (s ∷ often) paired sized soon =
           ∙ sym (map-append (frame_later delay) (offers_in s) (flat_map offers_in often));
     }
 
--- what blocks it, of the messages behind it
+-- the lower-priority message that blocks it
 pub record Blocks (delay : ℕ) (lower : List Planned) (once : List Sequence) : Type 0 where
   pub ms : List Message
   pub have : HaveRuns delay ms once

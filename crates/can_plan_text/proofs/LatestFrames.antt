@@ -1,4 +1,4 @@
--- Which frame of each message is the latest.
+-- The latest frame of each message.
 use Rattle.std.proofs.Common.{◌≡◌, ℕ, List, ◌∷◌, ◌++◌, [], length, Option, Some, None, MatchOption, refl, sym, ap, subst, ◌∙◌, inl, inr, arith}
 use Rattle.std.specs.Prelude.{IfSome, option_map, slice_get}
 use Rattle.std.proofs.lemmas.List.{take_all}
@@ -19,7 +19,7 @@ use Rattle.can_plan_text.specs.Plans.{messages_of}
 use Rattle.can_plan_text.proofs.Kept.{last-cases}
 
 module _ (plan : Plan) (place : ℕ) (v : Verdict) where
-  -- what is told of the latest frame, by these messages and this rate
+  -- the latest frame, by these messages and this error model
   abbrev pub Told : List Message → HitRate → ℕ → Option Latest → Type 0
   Told messages rate bound result =
       MatchOption result (IsLeastBound (most_hits rate) limit (ranking_at messages place v.planned.message) bound → ⊥)
@@ -52,7 +52,7 @@ judged-here plan vs are n v at =
     let one : slice_get plan.messages.items n ≡ Some v.planned = ap (λ l. slice_get l n) (sym all) ∙ slice_get-map planned vs n ∙ ap (option_map planned) at in
     slice_get-map (λ (p : Planned). p.message) plan.messages.items n ∙ ap (option_map (λ (p : Planned). p.message)) one
 
--- one detail more
+-- one more detail
 pub details-more : (plan : Plan) (vs : List Verdict) (ds : List Detail) (place : ℕ) (v : Verdict) (d : Detail) → length ds ≡ place → slice_get vs place ≡ Some v →
     IsDetail plan place v d →
     ((n : ℕ) (u : Verdict) (e : Detail) → slice_get vs n ≡ Some u → slice_get ds n ≡ Some e → IsDetail plan n u e) →

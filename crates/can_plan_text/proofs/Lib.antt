@@ -1,18 +1,18 @@
--- messages that are put in the order of arbitration, one after another
+-- messages as they are sorted by priority, one after another
 pub mod InOrder
 -- names of their own
 pub mod OwnNames
--- that a message within its deadline meets it; what analyses ask of messages
+-- a message within its deadline meets it; what analyses need of messages
 pub mod Kept
--- which frame of each is the latest
+-- the latest frame of each message
 pub mod LatestFrames
 -- the text of a head
 pub mod Heads
 -- the parts of a document, read one after another
 pub mod PlanParts
--- the definitions on numbers worked out by hand
+-- hand-computed test vectors for the definitions
 pub mod Rows
--- of worst cases: how long a level keeps the bus
+-- worst cases: how long a priority level keeps the bus
 pub mod Loads
 -- lists, pair by pair and place by place
 pub mod Pairs
@@ -24,9 +24,9 @@ pub mod WorstCases
 pub mod NamedMessages
 -- releases of messages, one message after another
 pub mod Runs
--- that messages of documents say how long their frames are
+-- messages of documents have the right longest time on the bus
 pub mod Sizes
 -- the releases of a worst case
 pub mod Keeping
--- the times of offers on numbers worked out by hand
+-- hand-computed test vectors for the times of offers
 pub mod WorstCaseRows

@@ -13,7 +13,7 @@ paired-push R [] (z ∷ ys) x y p r = absurd p
 paired-push R (w ∷ xs) [] x y p r = absurd p
 paired-push R (w ∷ xs) (z ∷ ys) x y p r = (p.0, paired-push R xs ys x y p.1 r)
 
--- the element at a place of one list behind another
+-- the element at a place of a list that follows another
 pub at-either : {A : Type 0} (xs ys : List A) (n : ℕ) (a : A) → slice_get (xs ++ ys) n ≡ Some a →
     ((n < length xs) × (slice_get xs n ≡ Some a)) ⊎ ((k : ℕ) × (n ≡ length xs + k) × (slice_get ys k ≡ Some a))
 at-either [] ys n a e = inr (n, omega arith, e)
@@ -33,7 +33,7 @@ range-at f from (suc count) (suc n) a e =
     let same : from + suc n ≡ from + 1 + n = omega arith in
     ap f same ∙ range-at f (from + 1) count n a e
 
--- what holds of the elements before a place, and of the one there, holds of those before the next
+-- what is true of the elements before a place, and of the one there, is true of those before the next place
 pub holds-next : {A : Type 0} (P : A → Type 0) (xs : List A) (place : ℕ) (x : A) → place < length xs → x ≡ get_or xs place x → P x →
     ((n : ℕ) (y : A) → n < place → slice_get xs n ≡ Some y → P y) → (n : ℕ) (y : A) → n < place + 1 → slice_get xs n ≡ Some y → P y
 holds-next P xs place x within is here before n y less e = elim (cases_lt n place) [

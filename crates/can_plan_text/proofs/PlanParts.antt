@@ -33,7 +33,7 @@ paired-back R [] (z ∷ ys) n y p is = absurd p
 paired-back R (x ∷ xs) (z ∷ ys) zero y p is = let e : z ≡ y = (let s : Some z ≡ Some y = is in cc) in (x, refl, subst (λ w. R x w) e p.0)
 paired-back R (x ∷ xs) (z ∷ ys) (suc n) y p is = paired-back R xs ys n y p.1 is
 
--- ---- demands on each
+-- ---- requirements on each
 
 module _ {F A : Type 0} (one : ℕ → A → Demands F) where
   each-met : (from : ℕ) (xs : List A) → ((k p : ℕ) (y : A) → p ≡ from + k → slice_get xs k ≡ Some y → AllMet (one p y)) → AllMet (demands_on_each one from xs)
@@ -181,7 +181,7 @@ module _ (document : Data) (ds : List Data) (rate : ℕ) (are : ds ≡ messages_
     abbrev each_name : Demands PlanField
     each_name = demands_on_each (name_demands (messages_in document)) 0 (messages_in document)
 
-    -- what is told behind what is demanded of each message by itself
+    -- the faults that follow the requirements on each message by itself
     behind-each : (wrong : PlanField) → IsFirstUnmet wrong (followed each_field each_name) → IsFirstUnmet wrong (plan_demands document)
     behind-each wrong unmet =
         unmet-later wrong (plan_top_demands document) _ top

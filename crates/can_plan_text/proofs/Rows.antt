@@ -1,4 +1,4 @@
--- The definitions, computed on numbers worked out by hand.
+-- Hand-computed test vectors for the definitions.
 use Rattle.std.proofs.Common.{◌≡◌, ◌<◌, ℕ, true, false, [], ◌∷◌, length, Some, None, pos, refl, subst, arith}
 use Rattle.std.specs.List.{list_all}
 use Rattle.std.specs.Prelude.{codes}
@@ -25,7 +25,7 @@ up-more = refl
 up-one : bits_up 125000 1 ≡ 1
 up-one = refl
 
--- at 1 Mbit/s it is one, and without a rate times are bit times
+-- at 1 Mbit/s it is one, and without a bit rate times are bit times
 fastest : bits_down 1000000 4294967295 ≡ 4294967295
 fastest = refl
 
@@ -35,7 +35,7 @@ untold-down = refl
 untold-up : bits_up 0 2503 ≡ 2503
 untold-up = refl
 
--- 7 microseconds are less than a bit time: no period, and no spacing, as 0 is; 8 are one
+-- 7 microseconds are less than a bit time: not a period, and not a spacing, but 0 is one; 8 are one bit time
 seven-no-period : IsPeriod 125000 (integer (pos 7)) → ⊥
 seven-no-period (n, is, within, some) = let e : n ≡ 7 = cc in let none : 0 < bits_down 125000 7 = subst (λ (k : ℕ). 0 < bits_down 125000 k) e some in omega (arith, none)
 
@@ -64,7 +64,7 @@ unbound = refl
 late-told : outcome_text 131 (Some 132) ≡ codes " late"
 late-told = refl
 
--- a name: the first and the last characters that may stand in it, and their neighbours, which may not
+-- the first and the last characters that a name may have, and their neighbours, which it may not have
 named-all : IsMessageName (codes " !#[]~")
 named-all = let six : length (codes " !#[]~") ≡ 6 = refl in record { some = omega (arith, six); few = omega (arith, six); printed = refl }
 

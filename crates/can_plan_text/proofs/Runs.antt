@@ -20,7 +20,7 @@ AreDistinct (m ∷ ms) = ((n : Message) → IsIn ms n → m.field ≢ n.field) �
 abbrev pub Ascend : List Message → Type 0
 Ascend messages = (i j : ℕ) (a b : Message) → i < j → slice_get messages i ≡ Some a → slice_get messages j ≡ Some b → Before a.field b.field
 
--- the first of ascending messages, and some of those behind them
+-- the first of ascending messages, and some of those after it
 pub distinct-front : (xs ys zs : List Message) → Ascend (xs ++ ys) → ((z : Message) → IsIn zs z → IsIn ys z) → AreDistinct zs → AreDistinct (xs ++ zs)
 distinct-front [] ys zs ascend among distinct = distinct
 distinct-front (x ∷ xs) ys zs ascend among distinct = (
@@ -47,7 +47,7 @@ pub record IsRun (m : Message) (rs : List Release) : Type 0 where
   pub within : (r : Release) → IsIn rs r → IsWithin m r
   pub apart : (i j : ℕ) (a b : Release) → i < j → slice_get rs i ≡ Some a → slice_get rs j ≡ Some b → a.released + m.period ≤ b.released
 
--- ---- of several, one behind the other
+-- ---- of several messages, one after another
 
 pub record AreRuns (ms : List Message) (rs : List Release) : Type 0 where
   pub known : (r : Release) → IsIn rs r → (m : Message) × IsIn ms m × IsOf m r × IsWithin m r
@@ -57,11 +57,11 @@ none-runs : AreRuns [] []
 none-runs = record { known = λ r s. absurd (stands-none r s); apart = λ i j a b m less at_a at_b there of_a of_b. absurd (stands-none m there) }
 
 module _ (m : Message) (ms : List Message) (rs others : List Release) (run : IsRun m rs) (rest : AreRuns ms others) (differs : (n : Message) → IsIn ms n → m.field ≢ n.field) where
-  -- a release of m is none of the others
+  -- a release of m is not one of the others
   not-other : (r : Release) → IsIn others r → IsOf m r → ⊥
   not-other r s of = let k = rest.known r s in differs k.0 k.1 (sym of ∙ k.2)
 
-  -- and one of those others is none of m's
+  -- one of the others is not one of m
   not-own : (r : Release) (n : Message) → IsIn rs r → IsIn ms n → IsOf n r → ⊥
   not-own r n s there of = differs n there (sym (run.its r s) ∙ of)
 

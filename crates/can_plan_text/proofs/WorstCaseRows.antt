@@ -1,4 +1,4 @@
--- The times of a worst case's offers, computed on numbers worked out by hand.
+-- Hand-computed test vectors for the times of a worst case's offers.
 use Rattle.std.proofs.Common.{◌≡◌, ℕ, [], ◌∷◌, refl}
 use Rattle.can_plan.specs.declared.message.Message.{Message}
 use Rattle.can_plan_text.specs.Worst.{offer_times}
@@ -18,7 +18,7 @@ two-periods = refl
 one-more : offer_times 7001 (message-of 3500 0) ≡ 1 ∷ 3501 ∷ 7001 ∷ []
 one-more = refl
 
--- the second frame is offered in time, and the first was late: 50 bit times lie between them
+-- the second frame is offered when it is released, the first was offered with jitter: 50 bit times lie between them
 late-first : offer_times 259 (message-of 1000 950) ≡ 1 ∷ 51 ∷ []
 late-first = refl
 

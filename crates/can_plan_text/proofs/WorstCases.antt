@@ -16,7 +16,7 @@ pub of-some : (blocker : Option Planned) (items after : List Sequence) (b : Plan
     (once : List Sequence) × AreOfBlocker blocker once × (after ≡ items ++ once)
 of-some blocker items after b s is once more = (s ∷ [], subst (λ (o : Option Planned). AreOfBlocker o (s ∷ [])) (sym is) (s, once, refl), more)
 
--- ---- a level, and those behind it
+-- ---- a priority level, and the messages after it
 
 module _ (planned : List Planned) (place : ℕ) (blocker : Option Planned) (level lower : List Planned) (left : ℕ)
     (first : level ≡ take (place + 1) planned) (rest : lower ≡ drop (place + 1) planned) (its : left ≡ blocking_of blocker) (is : IsBlocker lower blocker) where

@@ -1,4 +1,4 @@
--- That the frames of a worst case keep to the messages, so that bounds speak of them. (docs/PLANNING.md, "The worst case")
+-- The frames of a worst case keep to the messages, so that bounds apply to them. (docs/PLANNING.md, "The worst case")
 use Rattle.std.specs.Prelude.{ℕ, ◌≡◌, List, map}
 use Rattle.std.specs.List.{flat_map}
 use Rattle.can_bus.specs.Shifts.{frames_later}
@@ -11,10 +11,11 @@ use Rattle.can_plan_text.specs.declared.case.Sequence.{Sequence}
 use Rattle.can_plan_text.specs.declared.case.WorstCase.{WorstCase}
 use Rattle.can_plan_text.specs.Worst.{frame_dlc}
 
--- each message says of its frames how long they keep the bus at most, as it does where a document says it
+-- each message has the right longest time on the bus for its frames, as every message of a document does
 abbrev pub AreSized : List Planned → Type 0
 AreSized planned = (p : Planned) → IsIn planned p → IsLongestBusy p.head.id p.head.remote (frame_dlc p) p.message.longest
 
+-- the offers of one message
 abbrev pub offers_in : Sequence → List TimedParts
 offers_in s = map (λ (t : ℕ). let x : TimedParts = record { time = t; frame = s.frame } in x) s.times.items
 
@@ -22,7 +23,7 @@ offers_in s = map (λ (t : ℕ). let x : TimedParts = record { time = t; frame =
 abbrev pub offers_of : WorstCase → List TimedParts
 offers_of w = flat_map offers_in w.sequences.items
 
--- so many bit times later they are those of releases that keep to the messages
+-- the offers, `delay` bit times later, are those of releases that keep to the messages
 pub record KeepToMessages (messages : List Message) (delay : ℕ) (offers : List TimedParts) : Type 0 where
   pub releases : List Release
   pub same : map offer_of releases ≡ frames_later delay offers

@@ -1,4 +1,4 @@
--- The answer to a network, as text. (docs/PLANNING.md, "`canplan`")
+-- The output for a network, as text. (docs/PLANNING.md, "`canplan`")
 use Rattle.std.specs.Prelude.{ℕ, ◌≡◌, ◌+◌, ◌-◌, ◌*◌, ◌/◌, ◌%◌, if◌then◌else◌, nat_lt, List, [], ◌++◌, length, take, slice_get, codes, decimal, Option, Some, None}
 use Rattle.std.specs.List.{flat_map, sum_by}
 use Rattle.can_frame.specs.Text.{frame_text}
@@ -15,11 +15,11 @@ use Rattle.can_plan_text.specs.Plans.{IsPlanText}
 
 -- ---- the load
 
--- which part of the time frames of the message take at most, in billionths, rounded up
+-- the share of the time that frames of the message take at most, in billionths, rounded up
 abbrev pub share_of : Verdict → ℕ
 share_of v = (v.planned.message.longest * 1000000000 + v.planned.message.period - 1) / v.planned.message.period
 
--- all of them together, in thousandths, rounded down
+-- the load: the sum of these shares, in thousandths, rounded down
 abbrev pub load_thousandths : List Verdict → ℕ
 load_thousandths verdicts = sum_by share_of verdicts / 1000000
 
@@ -42,7 +42,7 @@ bound_text (Some bound) = decimal bound
 abbrev pub slack_text : ℕ → List ℕ
 slack_text slack = codes " slack " ++ (decimal slack ++ codes " ok")
 
--- by how much a bound is within the deadline; ` late` where it isn't, or there is none
+-- how much a bound is within the deadline; ` late` if it is above, or there is none
 abbrev pub outcome_text : ℕ → Option ℕ → List ℕ
 outcome_text deadline None = codes " late"
 outcome_text deadline (Some bound) = if nat_lt deadline bound then codes " late" else slack_text (deadline - bound)
@@ -55,7 +55,7 @@ times_text deadline bound = codes " bound " ++ (bound_text bound ++ (codes " dea
 abbrev pub quoted_text : List ℕ → List ℕ
 quoted_text name = codes " name \"" ++ (name ++ codes "\"\n")
 
--- the end of the line, behind the name where there is one
+-- the end of the line, after the name if there is one
 abbrev pub end_text : Option Name → List ℕ
 end_text None = codes "\n"
 end_text (Some name) = quoted_text (name_bytes name)
@@ -78,21 +78,21 @@ last_line verdicts =
     codes "load " ++ (thousandths (load_thousandths verdicts) ++ (codes " late " ++ (decimal (late_in verdicts) ++
     (codes " of " ++ (decimal (length verdicts) ++ codes "\n")))))
 
--- `hits at most 15 within 149999`, where the document has errors
+-- `hits at most 15 within 149999`, if the document has errors
 abbrev pub borne_line : Option Borne → List ℕ
 borne_line None = []
 borne_line (Some Ever) = codes "hits at most 15 for ever\n"
 borne_line (Some (For long)) = codes "hits at most 15 within " ++ (decimal long ++ codes "\n")
 borne_line (Some Never) = codes "hits above 15 at once\n"
 
--- the whole answer
+-- the whole output
 abbrev pub plan_report : ℕ → Analysis → List ℕ
 plan_report rate analysis =
     first_line rate analysis.verdicts.items ++ (flat_map message_line analysis.verdicts.items ++
     (last_line analysis.verdicts.items ++ borne_line analysis.borne))
 
--- The answer to a document: it says a network, of whose messages this is written; so many are late, and the others meet
--- their deadlines.
+-- The output for a document, which describes a network. It is that of the network's analysis; `late` is the number of messages
+-- that may miss their deadline, and the others meet theirs.
 pub record IsAnswer (input output : List ℕ) (late : ℕ) : Type 0 where
   pub plan : Plan
   pub said : IsPlanText input plan

@@ -10,7 +10,7 @@ use Rattle.can_stream.specs.declared.fault.TraceFault.TheVariants.{Read, Write, 
 use Rattle.can_plan_text.specs.declared.canplan_fault.CanplanFault.{CanplanFault}
 use Rattle.can_plan_text.specs.declared.canplan_fault.CanplanFault.TheVariants.{Field, MessageUnknown, TimelineTooLong, DeadlinesMissed, Stream}
 
--- the document is refused for this field, and nothing is written
+-- the document is refused because of this field, and nothing is written
 abbrev pub RefusesNetwork : PlanField → List ℕ → List ℕ → Type 0
 RefusesNetwork wrong input output = IsWrongPlanField wrong input × WritesNothing input output
 
@@ -18,19 +18,19 @@ RefusesNetwork wrong input output = IsWrongPlanField wrong input × WritesNothin
 abbrev pub IsPlanFault : CanplanFault → Type 0
 IsPlanFault fault = ((wrong : PlanField) × (fault ≡ Field wrong)) ⊎ (fault ≡ Stream Memory)
 
--- the whole answer is written in a form, by which so many messages may be late
+-- the whole output is written in a form, with this number of messages that may miss their deadline
 abbrev pub AnswersNetwork : Form → ℕ → List ℕ → List ℕ → Type 0
 AnswersNetwork form late input output = IsAnswerIn form input output late
 
--- it is, however many may be late
+-- this, with any number
 abbrev pub AnswersWhole : Form → List ℕ → List ℕ → Type 0
 AnswersWhole form input output = (late : ℕ) × AnswersNetwork form late input output
 
--- it is, and some may be late
+-- this, with at least one
 abbrev pub AnswersLate : Form → List ℕ → List ℕ → Type 0
 AnswersLate form input output = (late : ℕ) × (0 < late) × AnswersNetwork form late input output
 
--- what is written where the run ends so
+-- what is written if the run ends with this result
 abbrev pub DoesAnswer : Form → Result (Unit {0}) CanplanFault → List ℕ → List ℕ → Type 0
 DoesAnswer form (Ok done) = AnswersNetwork form 0
 DoesAnswer form (Err (Field wrong)) = RefusesNetwork wrong
@@ -56,7 +56,7 @@ RefusesName message input output = IsUnknown input message × WritesNothing inpu
 abbrev pub RefusesLength : List ℕ → List ℕ → List ℕ → Type 0
 RefusesLength message input output = IsUnending input message × WritesNothing input output
 
--- what is written where the run ends so
+-- what is written if the run ends with this result
 abbrev pub DoesTimeline : List ℕ → Result (Unit {0}) CanplanFault → List ℕ → List ℕ → Type 0
 DoesTimeline message (Ok done) = Draws message
 DoesTimeline message (Err (Field wrong)) = RefusesNetwork wrong
@@ -68,6 +68,6 @@ DoesTimeline message (Err (Stream Write)) = WritesBeginning (Draws message)
 DoesTimeline message (Err (Stream Memory)) = WritesNothing
 DoesTimeline message (Err (Stream _)) = λ input output. ⊥
 
--- the scenario is refused for a field, a name or its length, or memory ran out
+-- the scenario is refused because of a field, a name or its length, or memory ran out
 abbrev pub IsTimelineFault : CanplanFault → Type 0
 IsTimelineFault fault = IsPlanFault fault ⊎ ((fault ≡ MessageUnknown) ⊎ (fault ≡ TimelineTooLong))

@@ -7,11 +7,11 @@ use Rattle.can_frame.specs.Text.{frame_text}
 use Rattle.can_plan_text.specs.declared.case.Sequence.{Sequence}
 use Rattle.can_plan_text.specs.declared.case.WorstCase.{WorstCase}
 
--- how many ports have the frames of one message alone
+-- how many ports have the frames of a single message
 abbrev pub own_ports : ℕ
 own_ports = 63
 
--- for how many entries each log has room: for all frames, or for as many as it may have
+-- the capacity of each log, in entries: the number of all frames, but at most 65536
 abbrev pub log_room : List Sequence → ℕ
 log_room sequences = min (sum_by (λ s. length s.times.items) sequences) 65536
 
@@ -19,13 +19,15 @@ log_room sequences = min (sum_by (λ s. length s.times.items) sequences) 65536
 unfoldable pub offer_line : Parts → ℕ → List ℕ
 offer_line f time = codes "    [" ++ (decimal time ++ (codes ", \"" ++ (frame_text f ++ codes "\"],\n")))
 
+-- a line for each time at which a frame is offered
 abbrev pub offer_lines : Sequence → List ℕ
 offer_lines s = flat_map (offer_line s.frame) s.times.items
 
--- what stands before the offers to a port, and behind them
+-- the text before the offers to a port
 unfoldable pub port_begin : List ℕ
 port_begin = codes "\n[[port]]\nqueue = [\n"
 
+-- the text after them
 unfoldable pub port_end : ℕ → List ℕ
 port_end room = codes "]\nlog = " ++ (decimal room ++ codes "\n")
 
@@ -33,15 +35,15 @@ port_end room = codes "]\nlog = " ++ (decimal room ++ codes "\n")
 unfoldable pub own_port : ℕ → Sequence → List ℕ
 own_port room s = port_begin ++ (offer_lines s ++ port_end room)
 
--- and one with those of all these messages; it listens where there are none
+-- one port with the frames of all these messages; it listens if there are none
 unfoldable pub shared_port : ℕ → List Sequence → List ℕ
 shared_port room sequences = port_begin ++ (flat_map offer_lines sequences ++ port_end room)
 
--- the version of the format, and how many bit times are run
+-- the version of the format, and the number of bit times
 unfoldable pub head_lines : ℕ → List ℕ
 head_lines bits = codes "version = 2\nbits = " ++ (decimal bits ++ codes "\n")
 
--- the whole scenario: the run ends as the bus is no longer busy
+-- the whole scenario: the run ends when the bus is no longer busy
 abbrev pub scenario_text : WorstCase → List ℕ
 scenario_text w =
     head_lines (w.long + 1) ++

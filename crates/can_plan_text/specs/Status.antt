@@ -1,4 +1,4 @@
--- What the exit status of `canplan` says. (docs/CODES.md)
+-- The exit status of `canplan`. (docs/CODES.md)
 use Rattle.std.specs.Prelude.{ℕ}
 use Rattle.can_plan_text.specs.declared.fault.PlanFault.{PlanFault}
 use Rattle.can_plan_text.specs.declared.fault.PlanFault.TheVariants as plan
@@ -9,7 +9,8 @@ use Rattle.can_plan_text.specs.declared.worst_fault.WorstFault.TheVariants as wo
 use Rattle.can_plan_text.specs.declared.canplan_fault.CanplanFault.{CanplanFault}
 use Rattle.can_plan_text.specs.declared.canplan_fault.CanplanFault.TheVariants.{Field, MessageUnknown, TimelineTooLong, DeadlinesMissed, Stream}
 
--- 1: the document is refused, or the message that is named, or some message is not sure to meet its deadline. 3: a stream failed. 4: memory ran out.
+-- 1: the document, the name or the length is refused, or some message may miss its deadline. 3: a stream failed. 4: memory ran
+-- out.
 abbrev pub canplan_status : CanplanFault → ℕ
 canplan_status (Field wrong) = 1
 canplan_status MessageUnknown = 1
@@ -17,12 +18,12 @@ canplan_status TimelineTooLong = 1
 canplan_status DeadlinesMissed = 1
 canplan_status (Stream fault) = stream_status fault
 
--- how it is told that a document is not read
+-- the fault of the program if a document is refused
 abbrev pub plan_fault_of : PlanFault → CanplanFault
 plan_fault_of (plan.Field wrong) = Field wrong
 plan_fault_of plan.Memory = Stream Memory
 
--- and that there is no scenario
+-- the fault of the program if there is no scenario
 abbrev pub worst_fault_of : WorstFault → CanplanFault
 worst_fault_of (worst.Field wrong) = Field wrong
 worst_fault_of worst.Unknown = MessageUnknown

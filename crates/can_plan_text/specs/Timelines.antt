@@ -14,7 +14,8 @@ use Rattle.can_plan_text.specs.declared.case.WorstCase.{WorstCase}
 use Rattle.can_plan_text.specs.Scenario.{scenario_text}
 use Rattle.can_plan_text.specs.Worst.{IsTooLong, IsWorstCase}
 
--- the message's frames have the arbitration field of a frame whose text this is, but for a DLC
+-- The name of a message: the text of a frame before the space and the DLC. The message's frames have the arbitration field of
+-- this frame.
 abbrev pub Names : List ℕ → Planned → Type 0
 Names name p = (f : Parts) × IsHeadText name f × (arbitration_field f ≡ p.message.field)
 
@@ -22,11 +23,11 @@ Names name p = (f : Parts) × IsHeadText name f × (arbitration_field f ≡ p.me
 abbrev pub IsNamedAt : List ℕ → List Planned → ℕ → Type 0
 IsNamedAt name planned place = (p : Planned) × (slice_get planned place ≡ Some p) × Names name p
 
--- none has
+-- no message has the name
 abbrev pub IsUnnamed : List ℕ → List Planned → Type 0
 IsUnnamed name planned = (n : ℕ) (p : Planned) → slice_get planned n ≡ Some p → Names name p → ⊥
 
--- the scenario of the worst case of the message that has the name, in the network that the document says
+-- the scenario of the worst case of the message with this name, in the network that the document describes
 pub record IsTimeline (document name output : List ℕ) : Type 0 where
   pub plan : Plan
   pub said : IsPlanText document plan
@@ -36,13 +37,13 @@ pub record IsTimeline (document name output : List ℕ) : Type 0 where
   pub is : IsWorstCase plan.messages.items place worst
   pub written : output ≡ scenario_text worst
 
--- no message of that network has the name
+-- no message of the network has the name
 pub record IsUnknown (document name : List ℕ) : Type 0 where
   pub plan : Plan
   pub said : IsPlanText document plan
   pub unnamed : IsUnnamed name plan.messages.items
 
--- no scenario is long enough for it
+-- no scenario is long enough for the worst case of the message
 pub record IsUnending (document name : List ℕ) : Type 0 where
   pub plan : Plan
   pub said : IsPlanText document plan
@@ -50,7 +51,7 @@ pub record IsUnending (document name : List ℕ) : Type 0 where
   pub named : IsNamedAt name plan.messages.items place
   pub long : IsTooLong plan.messages.items place
 
--- how it is told that a document is not read
+-- why there is no scenario if a document is refused
 abbrev pub fault_of : PlanFault → WorstFault
 fault_of (refused.Field wrong) = Field wrong
 fault_of refused.Memory = Memory

@@ -1,9 +1,9 @@
--- The worst case of a message: frames that are offered so that one of its own comes as late as can be, where nothing is
--- hit. (docs/PLANNING.md, "The worst case")
+-- The worst case of a message, without hits: frames are offered so that one of the message's own has the longest response time.
+-- (docs/PLANNING.md, "The worst case")
 --
--- The messages stand in the order of arbitration. A message and those before it are a level. All of the level are
--- offered together, full jitter behind their release, and then as often as their periods allow. One of those behind it
--- is offered one bit time before, and blocks them.
+-- The messages are in the order of priority. A message and the higher-priority ones are a priority level. All frames of the level
+-- are offered together, the full jitter after their release, and then as often as their periods allow. A lower-priority frame is
+-- offered one bit time earlier, and blocks them.
 use Rattle.std.specs.Prelude.{ℕ, ◌≡◌, ◌⊎◌, ◌+◌, ◌-◌, ◌*◌, ◌<◌, ◌≤◌, min, List, [], ◌∷◌, ◌++◌, drop, length, map, take, Option, Some, None, MatchOption}
 use Rattle.std.specs.List.{All, Contains, range_with_len, sum_by}
 use Rattle.can_frame.specs.Parts.{Parts}
@@ -24,18 +24,18 @@ use Rattle.can_plan_text.specs.declared.case.WorstCase.{WorstCase}
 abbrev pub start : ℕ
 start = 1
 
--- when the frame of this number is offered, counted from 0: so many periods behind the first, less the jitter that the
--- first had
+-- when the frame with this number, counted from 0, is offered: this many periods after the first, less the jitter of the first,
+-- but not before the first
 abbrev pub offer_time : Message → ℕ → ℕ
 offer_time m number = start + (number * m.period - m.jitter)
 
--- when those are offered that arrive within so many bit times
+-- when the frames are offered that arrive within `long` bit times
 abbrev pub offer_times : ℕ → Message → List ℕ
 offer_times long m = map (offer_time m) (range_with_len 0 (arrivals m long))
 
--- ---- for how long
+-- ---- the busy period
 
--- how long those of a level keep the bus
+-- how long the frames of a level that arrive within `long` bit times keep the bus
 abbrev pub load_of : List Planned → ℕ → ℕ
 load_of level long = sum_by (λ p. arrivals p.message long * p.message.longest) level
 
@@ -43,22 +43,22 @@ load_of level long = sum_by (λ p. arrivals p.message long * p.message.longest) 
 abbrev pub IsBlocker : List Planned → Option Planned → Type 0
 IsBlocker lower blocker = MatchOption blocker (lower ≡ []) (λ b. Contains lower b × All (λ p. p.message.longest ≤ b.message.longest) lower)
 
--- how much of its frame is left a bit time behind its start
+-- how much of the blocking frame is left one bit time after its start
 abbrev pub blocking_of : Option Planned → ℕ
 blocking_of None = 0
 blocking_of (Some b) = b.message.longest - 1
 
--- within so many bit times all of the level that arrive have been sent, behind what is left of the frame that blocks them
+-- within `long` bit times, above 0, what is left of the blocking frame and all frames of the level that arrive have been sent
 abbrev pub IsBusyPeriod : ℕ → List Planned → ℕ → Type 0
 IsBusyPeriod blocking level long = (0 < long) × (blocking + load_of level long ≤ long)
 
--- a scenario has a million bit times at most, and one of them before the level is offered
+-- the longest busy period: a scenario has at most a million bit times, and one of them is before the level is offered
 abbrev pub most_long : ℕ
 most_long = 999999
 
 -- ---- frames
 
--- the DLC of its frames, which is 15 at most
+-- the DLC of the message's frames, at most 15
 abbrev pub frame_dlc : Planned → ℕ
 frame_dlc p = min p.dlc 15
 
@@ -67,12 +67,12 @@ pub record IsLongestFrame (p : Planned) (f : Parts) : Type 0 where
   pub same : IsFrameOf p.head.id p.head.remote (frame_dlc p) f
   pub longest : IsLongestWire p.head.id p.head.remote (frame_dlc p) (length (wire f))
 
--- it is offered as often as it may be within so many bit times
+-- the longest frame of the message, offered as often as allowed within `long` bit times
 pub record IsOften (long : ℕ) (p : Planned) (s : Sequence) : Type 0 where
   pub frame : IsLongestFrame p s.frame
   pub times : s.times.items ≡ offer_times long p.message
 
--- it is offered once, as the run begins
+-- the longest frame of the message, offered once, when the run begins
 pub record IsOnce (p : Planned) (s : Sequence) : Type 0 where
   pub frame : IsLongestFrame p s.frame
   pub times : s.times.items ≡ 0 ∷ []
@@ -99,7 +99,7 @@ pub record IsWorstCase (planned : List Planned) (place : ℕ) (w : WorstCase) : 
   pub busy : IsLeast (IsBusyPeriod (blocking_of blocker) (take (place + 1) planned)) w.long
   pub sequences : AreSequences w.long (take (place + 1) planned) blocker w.sequences.items
 
--- no scenario is long enough for it
+-- no scenario is long enough for the worst case of the message at a place
 pub record IsTooLong (planned : List Planned) (place : ℕ) : Type 0 where
   pub blocker : Option Planned
   pub behind : IsBlocker (drop (place + 1) planned) blocker

@@ -1,4 +1,4 @@
-//! What the analysis answers of each message of a network.
+//! The analysis of each message of a network.
 ghost use Rattle.std.specs.Prelude.{◌≡◌, ◌≤◌, IfOk, Some, length, slice_get};
 ghost use Rattle.can_plan.specs.Analysis.{blocking as blocking_of, ranking_at};
 ghost use Rattle.can_plan_text.specs.Answers.{AreVerdicts, IsAnalysis, IsBorneFor};
@@ -9,10 +9,10 @@ use crate::verdict::{Analysis, Verdict};
 use can_plan::{Borne, HitRate, Message, Responses, blocking, borne_for};
 use std::alloc::{AllocError, Global};
 
-/// Up to which number of bit times a bound is looked for.
+/// The limit of the analysis for busy periods and delays, in bit times.
 pub(crate) const LIMIT: u32 = 10_000_000;
 
-/// What the analysis answers of a network.
+/// Returns the analysis of a network. It fails only if an allocation fails.
 pub fn analysed(alloc: Global, plan: &Plan) -> Result<Analysis, AllocError>
     ensures { IfOk result (IsAnalysis plan.now) }
 {
@@ -24,7 +24,7 @@ pub fn analysed(alloc: Global, plan: &Plan) -> Result<Analysis, AllocError>
     })
 }
 
-/// For how long hits at this rate are borne, if there is one.
+/// Returns for how long the error model is tolerated, if there is one.
 fn borne(errors: Option<HitRate>) -> Option<Borne>
     ensures { IsBorneFor errors result }
 {
@@ -34,7 +34,7 @@ fn borne(errors: Option<HitRate>) -> Option<Borne>
     }
 }
 
-/// What the analysis has to know of these messages.
+/// Returns what the analysis needs of these messages.
 pub(crate) fn messages_of(alloc: Global, planned: &[Planned]) -> Result<Vec<Message>, AllocError>
     ensures { IfOk result (λ messages. messages.items ≡ messages_in planned.now) }
 {
@@ -45,7 +45,7 @@ pub(crate) fn messages_of(alloc: Global, planned: &[Planned]) -> Result<Vec<Mess
     Ok(messages)
 }
 
-/// What is answered of each message of a network.
+/// Returns the verdict on each message of a network.
 fn judge_each(alloc: Global, plan: &Plan, messages: &[Message]) -> Result<Vec<Verdict>, AllocError>
     requires { messages.now ≡ messages_in plan.now.messages.items }
     ensures { IfOk result (λ verdicts. AreVerdicts plan.now (length plan.now.messages.items) verdicts.items) }
@@ -60,7 +60,7 @@ fn judge_each(alloc: Global, plan: &Plan, messages: &[Message]) -> Result<Vec<Ve
     Ok(verdicts)
 }
 
-/// What is answered of the message at this place, by what the analysis gives.
+/// Returns the verdict on the message at this place, with the bound that the analysis gives.
 fn judge(planned: &Planned, place: usize, messages: &[Message], bound: Option<u64>) -> Verdict
     requires here { slice_get messages.now place ≡ Some planned.now.message }
     ensures planned { result.planned ≡ planned.now }

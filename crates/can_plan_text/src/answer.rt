@@ -1,4 +1,4 @@
-//! The answer to a document.
+//! The output for a document.
 ghost use Rattle.std.specs.Prelude.{IfOk, IsErrOf};
 ghost use Rattle.can_plan_text.specs.declared.field.PlanField.{PlanField as Wrong};
 ghost use Rattle.can_plan_text.specs.Details.{IsAnswerIn, IsDetailedAnswer};
@@ -14,17 +14,17 @@ use crate::plan::Plan;
 use crate::report::push_report;
 use std::alloc::Global;
 
-/// The answer to a document, and how many of its messages may be late.
+/// The output for a document, and how many of its messages may miss their deadline.
 #[derive(Debug, Drop)]
 pub struct Answer {
     pub bytes: Vec<u8>,
     pub late: usize,
 }
 
-/// The answer to the document that the bytes are.
+/// Returns the output for the network in this text, without details.
 ///
-/// `Field` names the first field that isn't as it has to be, as [`Plan::from_text`] does. `Memory` says that memory ran
-/// out.
+/// - `Field`: the first field that is wrong, as [`Plan::from_text`] finds it.
+/// - `Memory`: memory ran out.
 pub fn answered(alloc: Global, text: &[u8]) -> Result<Answer, PlanFault>
     ensures found { IfOk result (λ answer. IsAnswer text.now answer.bytes.items answer.late) }
     ensures wrong { (wrong : Wrong) → IsErrOf result (PlanFault.Field wrong) → IsWrongPlanField wrong text.now }
@@ -39,16 +39,18 @@ pub fn answered(alloc: Global, text: &[u8]) -> Result<Answer, PlanFault>
     })
 }
 
-/// How much an answer tells.
+/// The forms of the output.
 #[derive(Clone, Copy, Debug, PartialEq, Eq)]
 pub enum Form {
     /// A line for each message.
     Brief,
-    /// Below each of these what makes its bound, and last how much is left until a message is late.
+    /// After the line of each message the parts of its bound, and at the end how much is left until a message may miss
+    /// its deadline.
     Detailed,
 }
 
-/// The answer to the document that the bytes are, in this form. [`answered`] gives the brief one.
+/// Returns the output for the network in this text, in this form. The faults are those of [`answered`], which returns
+/// the brief form.
 pub fn answered_in(alloc: Global, form: Form, text: &[u8]) -> Result<Answer, PlanFault>
     ensures found { IfOk result (λ answer. IsAnswerIn form text.now answer.bytes.items answer.late) }
     ensures wrong { (wrong : Wrong) → IsErrOf result (PlanFault.Field wrong) → IsWrongPlanField wrong text.now }
@@ -59,7 +61,7 @@ pub fn answered_in(alloc: Global, form: Form, text: &[u8]) -> Result<Answer, Pla
     }
 }
 
-/// The answer with details.
+/// Returns the output with details.
 fn detailed(alloc: Global, text: &[u8]) -> Result<Answer, PlanFault>
     ensures found { IfOk result (λ answer. IsDetailedAnswer text.now answer.bytes.items answer.late) }
     ensures wrong { (wrong : Wrong) → IsErrOf result (PlanFault.Field wrong) → IsWrongPlanField wrong text.now }

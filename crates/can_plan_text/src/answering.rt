@@ -1,4 +1,4 @@
-//! Answering the document of a network that a reader tells.
+//! The output for the document of a network from a reader.
 ghost use Rattle.std.specs.Prelude.{◌≡◌, ◌⊎◌, ◌↔◌, false, IfErr, IfOk, IsErrOf, IsTrue};
 ghost use Rattle.can_stream.specs.Told.{Told};
 ghost use Rattle.can_plan_text.specs.declared.field.PlanField.{PlanField as Wrong};
@@ -10,8 +10,9 @@ use crate::canplan_fault::CanplanFault;
 use can_stream::{Sink, Source, TraceFault, read_whole, write_all};
 use std::alloc::Global;
 
-/// Reads a network's document up to the reader's end, and writes the answer to it in this form. It answers how many of
-/// its messages may be late. Nothing is written where the reader failed, the document is refused, or memory ran out.
+/// Reads a network's document up to the reader's end, writes the output for it in this form, and returns how many
+/// messages may miss their deadline. It writes nothing if the reader fails, the document is refused, or memory runs
+/// out.
 pub fn answer_document<R: Source, W: Sink>(
     alloc: Global,
     form: Form,
@@ -22,7 +23,7 @@ pub fn answer_document<R: Source, W: Sink>(
     requires reader_unended { R.has_ended r.old ≡ false }
     requires writer_unfailed { W.has_failed w.old ≡ false }
 
-    // What was written of what was read.
+    // What was written for what was read.
     ensures ok { IfOk result (λ late. Told R.remaining r.old r.new W.contents w.old w.new (AnswersNetwork form late)) }
     ensures field { (wrong : Wrong) → IsErrOf result (CanplanFault.Field wrong) →
         Told R.remaining r.old r.new W.contents w.old w.new (RefusesNetwork wrong) }
@@ -31,7 +32,7 @@ pub fn answer_document<R: Source, W: Sink>(
     ensures memory { IsErrOf result (CanplanFault.Stream TraceFault.Memory) → Told R.remaining r.old r.new W.contents w.old w.new WritesNothing }
     ensures other { IfErr result (λ fault. IsPlanFault fault ⊎ (fault ≡ CanplanFault.Stream TraceFault.Read) ⊎ (fault ≡ CanplanFault.Stream TraceFault.Write)) }
 
-    // What the reader and the writer came to.
+    // Whether the reader and the writer failed.
     ensures read_failed { IsErrOf result (CanplanFault.Stream TraceFault.Read) ↔ IsTrue (R.has_failed r.new) }
     ensures write_failed { IsErrOf result (CanplanFault.Stream TraceFault.Write) ↔ IsTrue (W.has_failed w.new) }
 {

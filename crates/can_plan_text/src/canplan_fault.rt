@@ -1,4 +1,4 @@
-//! Why `canplan` did not do all that it was asked.
+//! Why `canplan` has not done all that was asked.
 ghost use Rattle.std.specs.Prelude.{◌≡◌};
 ghost use Rattle.can_plan_text.specs.Status.{plan_fault_of, canplan_status, worst_fault_of};
 ghost use Rattle.can_plan_text.specs.declared.canplan_fault.CanplanFault.TheVariants.{Stream};
@@ -10,22 +10,22 @@ use can_program::RunFault;
 use can_stream::TraceFault;
 use thiserror::Error;
 
-/// Why a run did not do all that it was asked.
+/// Why a run has not done all that was asked.
 #[derive(Clone, Copy, Debug, PartialEq, Eq, Error)]
 pub enum CanplanFault {
-    /// The document is refused for this field.
+    /// The document is refused because of this field.
     #[error("P2 {0}")]
     Field(PlanField),
-    /// No message of the network has the name.
+    /// No message of the network has this name.
     #[error("message unknown")]
     MessageUnknown,
     /// No scenario is long enough for the worst case of the message.
     #[error("timeline too long")]
     TimelineTooLong,
-    /// Not each message is sure to meet its deadline.
+    /// Some message may miss its deadline.
     #[error("deadlines missed")]
     DeadlinesMissed,
-    /// The input was not read, the answer was not written, or memory ran out.
+    /// The input was not read, the output was not written, or memory ran out.
     #[error(transparent)]
     Stream(TraceFault),
 }

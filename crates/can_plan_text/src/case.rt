@@ -7,18 +7,18 @@ use can_frame::Frame;
 #[derive(Debug, Drop)]
 pub struct Sequence {
     pub frame: Frame,
-    /// The bit times before which it is offered, counted from 0, in their order.
+    /// The bit times before which it is offered, counted from 0, the earliest first.
     pub times: Vec<u64>,
 }
 
 /// The worst case of a message.
 #[derive(Debug, Drop)]
 pub struct WorstCase {
-    /// For how many bit times its frames keep the bus busy from bit time 1 on, before which the frames of the message and
-    /// of those before it are offered together.
+    /// For how many bit times its frames keep the bus busy, from bit time 1 on. Before bit time 1 the frames of the
+    /// message and of the higher-priority ones are offered together.
     pub long: u64,
-    /// The frames of the message and of those before it, in the order of arbitration; and last the one that blocks them, if
-    /// there is a message behind it.
+    /// The frames of the message and of the higher-priority ones, highest priority first. The last one is the frame
+    /// that blocks them, if there is a lower-priority message.
     pub sequences: Vec<Sequence>,
     ghost short: { long ≤ 999999 },
 }

@@ -1,14 +1,14 @@
-//! What makes a bound.
+//! The parts of a bound.
 
 use crate::verdict::Verdict;
 use can_plan::Latest;
 
-/// What the analysis answers of a message, and which of its frames is the latest.
+/// The verdict on a message, and the latest of its frames.
 #[derive(Clone, Copy)]
 pub struct Detail {
     pub verdict: Verdict,
-    /// Its place in the order of arbitration, counted from 0.
+    /// Its place in the order of priority, counted from 0.
     pub place: usize,
-    /// The latest frame, where it has a bound.
+    /// The latest frame, if it has a bound.
     pub latest: Option<Latest>,
 }

@@ -1,4 +1,4 @@
-//! The answer to a network with details, as text.
+//! The output for a network with details, as text.
 ghost use Rattle.std.specs.Prelude.{◌≡◌, ◌+◌, ◌-◌, ◌++◌, ◌^◌, ◌<◌, ◌≤◌, OnOk, codes, take};
 ghost use Rattle.std.specs.List.{flat_map};
 ghost use Rattle.can_plan_text.specs.Details.{before_line, cost_line, detail_lines, details_text, last_lines, latest_line, latest_lines, number_line, own_lines, part_lines, time_line, time_lines, time_outcome};
@@ -16,11 +16,11 @@ use can_plan::{Latest, arrivals, own_load};
 use document_values::{push_named, push_text};
 use std::alloc::AllocError;
 
-/// How many bit times of intermission a message's longest time on the bus has, and its wire has not.
+/// The bit times of intermission, which the longest time on the bus includes and the wire does not.
 const INTERMISSION: u64 = 3;
 
-/// Appends the answer to a network with details: as it is without, and below the line of each message that has a bound
-/// lines that tell the parts of it; and last how much is left.
+/// Appends the output for a network with details: the output without them, with the parts of the bound after the line
+/// of each message that has one, and how much is left at the end.
 pub(crate) fn push_details(
     out: &mut Vec<u8>,
     plan: &Plan,
@@ -56,14 +56,14 @@ fn push_detail(out: &mut Vec<u8>, plan: &Plan, detail: &Detail) -> Result<(), Al
     push_latest(out, plan.rate, higher, &detail.verdict, detail.latest)
 }
 
-/// The messages before this place.
+/// Returns the messages before this place.
 fn before(messages: &[Planned], place: usize) -> &[Planned]
     ensures { result.now ≡ take place messages.now }
 {
     &messages[..place.min(messages.len())]
 }
 
-/// Appends what makes a bound, if there is one.
+/// Appends the parts of a bound, if there is one.
 fn push_latest(
     out: &mut Vec<u8>,
     rate: u32,
@@ -82,7 +82,7 @@ fn push_latest(
     }
 }
 
-/// Appends bound, deadline and slack in microseconds, where there is a rate.
+/// Appends bound, deadline and slack in microseconds, if there is a bit rate.
 fn push_times(out: &mut Vec<u8>, rate: u32, deadline: u32, bound: u64) -> Result<(), AllocError>
     requires { bound < 2 ^ 34 }
     ensures { OnOk result (out.new.items ≡ out.old.items ++ time_lines rate deadline bound) }
@@ -108,7 +108,7 @@ fn push_time_line(out: &mut Vec<u8>, rate: u32, deadline: u64, bound: u64) -> Re
     push_text(out, b"\n")
 }
 
-/// Appends by how many microseconds a bound is within the deadline, or that a frame may be late.
+/// Appends how many microseconds a bound is within the deadline, or that a frame may miss it.
 fn push_outcome(out: &mut Vec<u8>, rate: u32, deadline: u64, bound: u64) -> Result<(), AllocError>
     requires some { 0 < rate }
     requires due { deadline < 2 ^ 34 }
@@ -144,7 +144,7 @@ fn push_latest_line(out: &mut Vec<u8>, latest: &Latest) -> Result<(), AllocError
     push_ended(out, b" start ", u64::from(latest.delay))
 }
 
-/// Appends jitter, blocking, and the frames of its own message before it.
+/// Appends jitter, blocking, and the earlier frames of the message itself.
 #[tactic(auto, unfolding(crate::specs::Details::own_lines))]
 fn push_own(out: &mut Vec<u8>, verdict: &Verdict, latest: &Latest) -> Result<(), AllocError>
     ensures { OnOk result (out.new.items ≡ out.old.items ++ own_lines verdict.now latest.now) }
@@ -168,7 +168,7 @@ fn push_blocking(out: &mut Vec<u8>, blocking: u16) -> Result<(), AllocError>
     push_ended(out, b"  blocking ", u64::from(blocking))
 }
 
-/// Appends hits, its wire, and the periods that are taken away.
+/// Appends the hits, the wire of the frame, and the periods to subtract.
 #[tactic(auto, unfolding(crate::specs::Details::last_lines))]
 fn push_others(out: &mut Vec<u8>, verdict: &Verdict, latest: &Latest) -> Result<(), AllocError>
     ensures { OnOk result (out.new.items ≡ out.old.items ++ last_lines verdict.now latest.now) }
@@ -178,7 +178,7 @@ fn push_others(out: &mut Vec<u8>, verdict: &Verdict, latest: &Latest) -> Result<
     push_bits(out, b"  less periods ", latest.number, latest.later)
 }
 
-/// How long the wire of a frame is that keeps the bus so long.
+/// Returns the length of the wire of a frame that keeps the bus for this long.
 fn wire(longest: u16) -> u64
     ensures { result ≡ longest - 3 }
 {
@@ -193,7 +193,7 @@ fn push_bits(out: &mut Vec<u8>, word: &[u8], number: u64, bits: u64) -> Result<(
     push_ended(out, b" bits ", bits)
 }
 
-/// Appends for each of these messages how many of its frames go before one of this delay.
+/// Appends, for each of these messages, how many of its frames are sent before one with this delay.
 fn push_before(out: &mut Vec<u8>, delay: u32, higher: &[Planned]) -> Result<(), AllocError>
     ensures { OnOk result (out.new.items ≡ out.old.items ++ flat_map (before_line delay) higher.now) }
 {
@@ -203,7 +203,7 @@ fn push_before(out: &mut Vec<u8>, delay: u32, higher: &[Planned]) -> Result<(), 
     Ok(())
 }
 
-/// Appends how many frames of a message go before one of this delay.
+/// Appends how many frames of a message are sent before one with this delay.
 #[tactic(auto, unfolding(crate::specs::Details::before_line))]
 fn push_before_line(out: &mut Vec<u8>, delay: u32, planned: &Planned) -> Result<(), AllocError>
     ensures { OnOk result (out.new.items ≡ out.old.items ++ before_line delay planned.now) }

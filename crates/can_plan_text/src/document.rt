@@ -24,19 +24,19 @@ const TOP_FIELDS: [&str; 4] = ["version", "rate", "errors", "message"];
 /// The fields that its table of errors may have.
 const ERROR_FIELDS: [&str; 2] = ["burst", "spacing"];
 
-/// How many bits a second there may be: no classical CAN bus has more.
+/// The highest bit rate in bits a second: no classical CAN bus has a higher one.
 const MOST_RATE: u64 = 1_000_000;
 
-/// How long a time may be, in microseconds or bit times.
+/// The longest time, in microseconds or bit times.
 pub(crate) const MOST_TIME: u64 = u32::MAX as u64;
 
-/// How many hits may come at once.
+/// The highest number of hits at once.
 const MOST_BURST: u64 = u16::MAX as u64;
 
-/// How many messages a network may have.
+/// The highest number of messages of a network.
 const MOST_MESSAGES: usize = 512;
 
-/// The document that the bytes are.
+/// Parses the bytes as a document.
 pub(crate) fn parse(alloc: Global, text: &[u8]) -> Result<Table, PlanFault>
     ensures said { IfOk result (λ fields. IsDocument text.now (table (table_view fields))) }
     ensures unmet { (wrong : Wrong) → IsErrOf result (PlanFault.Field wrong) → IsNoDocument PlanField.Document wrong text.now }
@@ -51,9 +51,9 @@ pub(crate) fn parse(alloc: Global, text: &[u8]) -> Result<Table, PlanFault>
 /// The fields at the top.
 #[derive(Clone, Copy)]
 pub(crate) struct Top<'a> {
-    /// How many bits a second there are, or 0.
+    /// The bit rate in bits a second, or 0.
     pub(crate) rate: u32,
-    /// How often the bus is hit, if that is told.
+    /// The error model, if there is one.
     pub(crate) errors: Option<HitRate>,
     /// The values in the list of messages.
     pub(crate) messages: &'a [Value],
@@ -79,7 +79,7 @@ pub(crate) fn read_top(document: &Table) -> Result<Top<'_>, PlanFault>
     })
 }
 
-/// Reads the fields before the errors: how many bits a second there are, 0 where it is not said.
+/// Reads the fields before the errors, and returns the bit rate, or 0 if it is left out.
 fn read_rate(document: &Table) -> Result<u32, PlanFault>
     ensures said { IfOk result (λ rate. rate ≡ rate_in (table (table_view document.now))) }
     ensures within { IfOk result (λ rate. rate ≤ 1000000) }
@@ -96,7 +96,7 @@ fn read_rate(document: &Table) -> Result<u32, PlanFault>
     Ok(rate as u32)
 }
 
-/// Whether the document says that it is of version 1 of the format.
+/// Returns whether the document says that it is of version 1 of the format.
 fn is_of_version_one(document: &Table) -> bool
     ensures yes { IsTrue result → IsRequired (IsNumber 1) (named (codes "version") (table (table_view document.now))) }
     ensures no { IsFalse result → ¬ IsRequired (IsNumber 1) (named (codes "version") (table (table_view document.now))) }
@@ -104,7 +104,7 @@ fn is_of_version_one(document: &Table) -> bool
     matches!(field(document, "version"), Some(Value::Integer(1)))
 }
 
-/// How often the bus is hit, if the document tells it.
+/// Returns the error model of the document, if it has one.
 fn read_errors(rate: u32, document: &Table) -> Result<Option<HitRate>, PlanFault>
     requires { rate ≤ 1000000 }
     ensures said { IfOk result (SaysErrors rate (named (codes "errors") (table (table_view document.now)))) }
@@ -118,7 +118,7 @@ fn read_errors(rate: u32, document: &Table) -> Result<Option<HitRate>, PlanFault
     Ok(Some(read_hit_rate(rate, fields)?))
 }
 
-/// How often the bus is hit, as the table of errors says.
+/// Returns the error model in the table of errors.
 fn read_hit_rate(rate: u32, fields: &Table) -> Result<HitRate, PlanFault>
     requires { rate ≤ 1000000 }
     ensures said { IfOk result (SaysHitRate rate (table (table_view fields.now))) }
@@ -138,8 +138,8 @@ fn read_hit_rate(rate: u32, fields: &Table) -> Result<HitRate, PlanFault>
     })
 }
 
-/// How many bit times the spacing of hits has, 0 where it is left out. One that is less than a bit time is none: a
-/// spacing of 0 would say that no more hits come than the burst.
+/// Returns the spacing of hits in bit times, or 0 if it is left out. A spacing above 0 that is less than a bit time is
+/// refused: rounded down to 0 it would mean that no more hits come than the burst.
 fn spacing(rate: u32, fields: &Table) -> Option<u32>
     requires { rate ≤ 1000000 }
     ensures said { IfSome result (SaysSpacing rate (named (codes "spacing") (table (table_view fields.now)))) }
@@ -154,7 +154,7 @@ fn spacing(rate: u32, fields: &Table) -> Option<u32>
     (said == 0 || bits > 0).then_some(bits)
 }
 
-/// The values in the list of messages: 1 to 512 of them.
+/// Returns the values in the list of messages, 1 to 512 of them.
 fn message_values(document: &Table) -> Option<&[Value]>
     ensures said { IfSome result (λ values. map view values.now ≡ messages_in (table (table_view document.now))) }
     ensures few { IfSome result (λ values. length values.now ≤ 512) }

@@ -1,4 +1,4 @@
-//! Writing the scenario of a message's worst case, for the document of a network that a reader tells.
+//! The scenario of a message's worst case, for the document of a network from a reader.
 ghost use Rattle.std.specs.Prelude.{◌≡◌, ◌⊎◌, ◌↔◌, false, IfErr, IsErrOf, IsTrue, OnOk};
 ghost use Rattle.can_stream.specs.Told.{Told};
 ghost use Rattle.can_plan_text.specs.declared.field.PlanField.{PlanField as Wrong};
@@ -10,8 +10,8 @@ use crate::timelines::timeline;
 use can_stream::{Sink, Source, TraceFault, read_whole, write_all};
 use std::alloc::Global;
 
-/// Reads a network's document up to the reader's end, and writes the scenario of the worst case of the message that has
-/// this name. Nothing is written where the reader failed, the document, the name or the length is refused, or memory ran
+/// Reads a network's document up to the reader's end, and writes the scenario of the worst case of the message with
+/// this name. It writes nothing if the reader fails, the document, the name or the length is refused, or memory runs
 /// out.
 pub fn write_timeline<R: Source, W: Sink>(
     alloc: Global,
@@ -23,7 +23,7 @@ pub fn write_timeline<R: Source, W: Sink>(
     requires reader_unended { R.has_ended r.old ≡ false }
     requires writer_unfailed { W.has_failed w.old ≡ false }
 
-    // What was written of what was read.
+    // What was written for what was read.
     ensures ok { OnOk result (Told R.remaining r.old r.new W.contents w.old w.new (Draws message.now)) }
     ensures field { (wrong : Wrong) → IsErrOf result (CanplanFault.Field wrong) →
         Told R.remaining r.old r.new W.contents w.old w.new (RefusesNetwork wrong) }
@@ -34,7 +34,7 @@ pub fn write_timeline<R: Source, W: Sink>(
     ensures memory { IsErrOf result (CanplanFault.Stream TraceFault.Memory) → Told R.remaining r.old r.new W.contents w.old w.new WritesNothing }
     ensures other { IfErr result (λ fault. IsTimelineFault fault ⊎ (fault ≡ CanplanFault.Stream TraceFault.Read) ⊎ (fault ≡ CanplanFault.Stream TraceFault.Write)) }
 
-    // What the reader and the writer came to.
+    // Whether the reader and the writer failed.
     ensures read_failed { IsErrOf result (CanplanFault.Stream TraceFault.Read) ↔ IsTrue (R.has_failed r.new) }
     ensures write_failed { IsErrOf result (CanplanFault.Stream TraceFault.Write) ↔ IsTrue (W.has_failed w.new) }
 {

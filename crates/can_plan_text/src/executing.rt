@@ -21,17 +21,23 @@ use std::alloc::Global;
 /// The program's name, before the line of a fault.
 pub const NAME: &str = "canplan";
 
-/// Does what the words ask, and answers the exit status. The first of the words is the program's name. Where there is
-/// no other, it reads a network's document from `r` and writes the answer to `w`, with `--details` what makes each bound
-/// too, and with `--timeline` and the name of a message the scenario of its worst case; the text of help and the version go to `w`, and the line of a fault to `e`.
+/// Does what the words ask for, and returns the exit status. The first word is the program's name. The other words
+/// decide what is done:
+///
+/// - none: reads a network's document from `r`, and writes the output to `w`
+/// - `--details`: also writes the parts of each bound
+/// - `--timeline` and the name of a message: reads a document, and writes the scenario of the message's worst case
+/// - the words for help and version: writes the help text, or the version, to `w`
+///
+/// The line of a fault is written to `e`.
 ///
 /// | Status | Line | Why |
 /// |---|---|---|
-/// | 0 | none | all was done, and each message is sure to meet its deadline, if the answer was asked for |
+/// | 0 | none | all was done, and no message may miss its deadline, if bounds were asked for |
 /// | 1 | `canplan: P2 message[3].period` | the document is refused |
 /// | 1 | `canplan: message unknown` | no message of the network has the name |
 /// | 1 | `canplan: timeline too long` | no scenario is long enough for the worst case of the message |
-/// | 1 | `canplan: deadlines missed` | all was done, and some message is not sure to |
+/// | 1 | `canplan: deadlines missed` | all was done, and some message may miss its deadline |
 /// | 2 | `canplan: usage` | the words are refused |
 /// | 3 | `canplan: P3 read`, `canplan: P4 write` | `r` or `w` failed |
 /// | 4 | `canplan: P5 memory` | memory ran out |
@@ -47,7 +53,7 @@ pub fn execute<R: Source, W: Sink, E: Sink>(
     requires writer_unfailed { W.has_failed w.old ≡ false }
     ensures status { result < 5 }
 
-    // What was written of what was read, by the outcome that the status tells.
+    // What was written for what was read, for the outcome that the status stands for.
     ensures told { asked_of_canplan (texts_of words.now) ≡ Option.Some Asked.Answer
         → (outcome : Result (Unit {0}) CanplanFault) × (result ≡ exit_status canplan_status outcome)
         × Told R.remaining r.old r.new W.contents w.old w.new (DoesAnswer Form.Brief outcome) }
@@ -58,19 +64,19 @@ pub fn execute<R: Source, W: Sink, E: Sink>(
         → (outcome : Result (Unit {0}) CanplanFault) × (result ≡ exit_status canplan_status outcome)
         × Told R.remaining r.old r.new W.contents w.old w.new (DoesTimeline (message_in (texts_of words.now)) outcome) }
 
-    // A stream's failure is told, and nothing else is told so.
+    // The status is 3 exactly if a stream failed.
     ensures stream_failed { result ≡ 3 → IsTrue (R.has_failed r.new) ⊎ IsTrue (W.has_failed w.new) }
     ensures write_told { IsTrue (W.has_failed w.new) → result ≡ 3 }
     ensures read_told { IsTrue (R.has_failed r.new) → result ≡ 3 }
 
-    // Help is written where the words ask for it, and other words are refused.
+    // Help is written if the words ask for it, and other words are refused.
     ensures help_status { asked_of_canplan (texts_of words.now) ≡ Option.Some Asked.Help → (result ≡ 0) ⊎ (result ≡ 3) }
     ensures helped { asked_of_canplan (texts_of words.now) ≡ Option.Some Asked.Help → result ≡ 0
         → Appends (W.contents w.old) (W.contents w.new) HELP.now }
     ensures refused { asked_of_canplan (texts_of words.now) ≡ Option.None → result ≡ 2 }
     ensures misuse { result ≡ 2 → asked_of_canplan (texts_of words.now) ≡ Option.None }
 
-    // So is the version.
+    // The version is written if the words ask for it.
     ensures version_status { asked_of_canplan (texts_of words.now) ≡ Option.Some Asked.Version → (result ≡ 0) ⊎ (result ≡ 3) }
     ensures version_written { asked_of_canplan (texts_of words.now) ≡ Option.Some Asked.Version → result ≡ 0
         → Appends (W.contents w.old) (W.contents w.new) VERSION.now }
@@ -91,7 +97,7 @@ pub fn execute<R: Source, W: Sink, E: Sink>(
     }
 }
 
-/// Answers the document that the reader tells in this form.
+/// Writes the output for the document from the reader, in this form.
 fn answer<R: Source, W: Sink>(
     alloc: Global,
     form: Form,
@@ -110,7 +116,7 @@ fn answer<R: Source, W: Sink>(
     }
 }
 
-/// Writes the scenario of the worst case of the message that has this name, for the document that the reader tells.
+/// Writes the scenario of the worst case of the message with this name, for the document from the reader.
 fn draw<R: Source, W: Sink>(
     alloc: Global,
     message: &str,

@@ -1,21 +1,21 @@
-//! Why a document is not read.
+//! Why a document is refused.
 ghost use Rattle.std.specs.Prelude.{◌≡◌};
 ghost use Rattle.can_plan_text.specs.declared.fault.PlanFault.TheVariants.{Memory};
 
 use crate::field::{MessageField, PlanField};
 use std::alloc::{AllocError, AllocFailed};
 
-/// Why a document is not read: its first field that isn't as it has to be, or memory ran out.
+/// Why a document is refused: its first field that is wrong, or memory ran out.
 #[derive(Clone, Copy, Debug, PartialEq, Eq)]
 pub enum PlanFault {
-    /// This field isn't as it has to be.
+    /// This field is wrong.
     Field(PlanField),
     /// Memory ran out.
     Memory,
 }
 
 impl PlanFault {
-    /// The refusal of something of the message at this place.
+    /// Returns the fault for a field of the message at this place.
     pub(crate) fn of_message(place: usize, part: MessageField) -> PlanFault
         ensures { result ≡ PlanFault.Field (PlanField.Message place part) }
     {

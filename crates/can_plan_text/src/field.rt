@@ -4,34 +4,34 @@ use thiserror::Error;
 /// What is wrong in a document: the document, or one of its fields. Messages are counted from 0.
 #[derive(Clone, Copy, Debug, PartialEq, Eq, Error)]
 pub enum PlanField {
-    /// The bytes are no UTF-8, or no TOML document.
+    /// The bytes are not UTF-8, or not a TOML document.
     #[error("toml")]
     Document,
-    /// A field at the top that isn't known.
+    /// An unknown field at the top.
     #[error("key")]
     Unknown,
     /// The version of the format.
     #[error("version")]
     Version,
-    /// How many bits a second there are.
+    /// The bit rate.
     #[error("rate")]
     Rate,
     /// The table of errors.
     #[error("errors")]
     Errors,
-    /// A field of that table that isn't known.
+    /// An unknown field of that table.
     #[error("errors.key")]
     UnknownError,
     /// How many hits may come at once.
     #[error("errors.burst")]
     Burst,
-    /// After how long one more may come.
+    /// The time after which one more may come.
     #[error("errors.spacing")]
     Spacing,
     /// The list of messages.
     #[error("message")]
     Messages,
-    /// Something of one message.
+    /// A field of one message, or the message itself.
     #[error("message[{place}]{part}")]
     Message { place: usize, part: MessageField },
 }
@@ -39,10 +39,10 @@ pub enum PlanField {
 /// What is wrong in a message's table.
 #[derive(Clone, Copy, Debug, PartialEq, Eq, Error)]
 pub enum MessageField {
-    /// It isn't a table.
+    /// It is not a table.
     #[error("")]
     Table,
-    /// A field that isn't known.
+    /// An unknown field.
     #[error(".key")]
     Unknown,
     /// Identifier and kind of its frames.
@@ -58,10 +58,10 @@ pub enum MessageField {
     Deadline,
     #[error(".name")]
     Name,
-    /// Its frames have the arbitration field of a message before it.
+    /// Its frames have the arbitration field of an earlier message.
     #[error("")]
     Repeated,
-    /// It has the name of a message before it.
+    /// It has the name of an earlier message.
     #[error(".name")]
     RepeatedName,
 }

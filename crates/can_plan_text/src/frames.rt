@@ -11,7 +11,7 @@ use can_longest::LongestWires;
 /// The greatest DLC.
 const MOST_DLC: u8 = 15;
 
-/// The message of these that blocks those before them the longest, if there are any.
+/// Returns the one of these lower-priority messages that can block the longest, if there are any.
 pub(crate) fn blocker_of(lower: &[Planned]) -> Option<Planned>
     ensures { IsBlocker lower.now result }
 {
@@ -21,7 +21,7 @@ pub(crate) fn blocker_of(lower: &[Planned]) -> Option<Planned>
     }
 }
 
-/// The message of these whose frames keep the bus the longest.
+/// Returns the message whose frames keep the bus the longest.
 fn longest_of(messages: &[Planned]) -> Option<&Planned>
     ensures none { IsNone result ↔ (messages.now ≡ []) }
     ensures listed { IfSome result (λ p. Contains messages.now p.now) }
@@ -32,7 +32,8 @@ fn longest_of(messages: &[Planned]) -> Option<&Planned>
         .max_by_key(|planned| planned.message.longest)
 }
 
-/// The frame of the message with data that make it the longest. A DLC above 15, which no document says, is taken as 15.
+/// Returns the frame of the message with data that make it the longest. A DLC above 15, which no document has, counts
+/// as 15.
 pub(crate) fn longest_frame(wires: &LongestWires, planned: &Planned) -> Frame
     ensures { IsLongestFrame planned.now result }
 {
@@ -42,7 +43,7 @@ pub(crate) fn longest_frame(wires: &LongestWires, planned: &Planned) -> Frame
     frame_with(id, remote, dlc, &wires.longest_data(id, remote, dlc))
 }
 
-/// The frame with these data.
+/// Returns the frame with these data.
 fn frame_with(id: Id, remote: bool, dlc: u8, bytes: &[u8]) -> Frame
     requires { IsFrame (with_bytes id remote dlc bytes.now) }
     ensures { result ≡ with_bytes id remote dlc bytes.now }

@@ -1,4 +1,4 @@
-//! Which frame of each message is the latest.
+//! The latest frame of each message.
 ghost use Rattle.std.specs.Prelude.{◌≡◌, IfOk, Some, length, slice_get};
 ghost use Rattle.can_plan_text.specs.Answers.{AreVerdicts, IsPlanVerdict};
 ghost use Rattle.can_plan_text.specs.Details.{AreDetails, IsLatestOf};
@@ -11,7 +11,7 @@ use crate::verdict::{Analysis, Verdict};
 use can_plan::{Latest, Message, latest_frame};
 use std::alloc::{AllocError, Global};
 
-/// What makes each bound of an analysis.
+/// Returns the parts of each bound of an analysis.
 pub(crate) fn details_of(
     alloc: Global,
     plan: &Plan,
@@ -32,7 +32,7 @@ pub(crate) fn details_of(
     Ok(details)
 }
 
-/// Which frame of the message at this place is the latest, where it has a bound.
+/// Returns the latest frame of the message at this place, if it has a bound.
 fn latest_of(plan: &Plan, messages: &[Message], place: usize, verdict: &Verdict) -> Option<Latest>
     requires all { messages.now ≡ messages_in plan.now.messages.items }
     requires judged { IsPlanVerdict plan.now place verdict.now }

@@ -1,4 +1,4 @@
-//! How much is left of a network until a message is late.
+//! How much is left of a network until a message may miss its deadline.
 ghost use Rattle.std.specs.Prelude.{◌≡◌, IfOk};
 ghost use Rattle.can_plan_text.specs.Details.{IsLeft, IsMarginOf, deadlines_of as deadlines_in};
 ghost use Rattle.can_plan_text.specs.Plans.{messages_of as messages_in};
@@ -8,7 +8,7 @@ use crate::plan::{Plan, Planned};
 use can_plan::{Margin, Message, Strain, margin_of};
 use std::alloc::{AllocError, Global};
 
-/// How much more a network bears until a message may be late; none where one may be as it is.
+/// The margins until a message may miss its deadline; `None` if one may already.
 #[derive(Clone, Copy)]
 pub struct Left {
     /// By how many per cent all periods may be shorter.
@@ -17,7 +17,7 @@ pub struct Left {
     pub hits: Option<Margin>,
 }
 
-/// How much is left of a network.
+/// Returns the margins of a network.
 pub(crate) fn left_of(alloc: Global, plan: &Plan) -> Result<Left, AllocError>
     ensures { IfOk result (IsLeft plan.now) }
 {
@@ -29,7 +29,7 @@ pub(crate) fn left_of(alloc: Global, plan: &Plan) -> Result<Left, AllocError>
     })
 }
 
-/// How much more of this a network bears, whose messages and deadlines these are.
+/// Returns the margin for this change of a network with these messages and deadlines.
 fn margin_in(
     alloc: Global,
     strain: Strain,
@@ -44,7 +44,7 @@ fn margin_in(
     margin_of(alloc, strain, messages, deadlines, &plan.hit_rate(), LIMIT)
 }
 
-/// The deadlines of these messages.
+/// Returns the deadlines of these messages.
 fn deadlines_of(alloc: Global, planned: &[Planned]) -> Result<Vec<u32>, AllocError>
     ensures { IfOk result (λ deadlines. deadlines.items ≡ deadlines_in planned.now) }
 {

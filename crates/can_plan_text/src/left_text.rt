@@ -1,4 +1,4 @@
-//! How much is left of a network, as text.
+//! The margins of a network, as text.
 ghost use Rattle.std.specs.Prelude.{◌≡◌, ◌+◌, ◌++◌, OnOk, Some, codes, slice_get};
 ghost use Rattle.can_plan_text.specs.Details.{late_text, left_lines, margin_line, margin_lines, planned_at};
 
@@ -9,7 +9,7 @@ use can_plan::Margin;
 use document_values::{push_named, push_text};
 use std::alloc::AllocError;
 
-/// Appends how much is left: by how many per cent all periods may be shorter, and how many more hits may come.
+/// Appends the margins: by how many per cent all periods may be shorter, and how many more hits may come at once.
 pub(crate) fn push_left(
     out: &mut Vec<u8>,
     planned: &[Planned],
@@ -43,7 +43,7 @@ fn push_margin(
     }
 }
 
-/// Appends a margin, and the first message that may be late with one more.
+/// Appends a margin, and the first message that may miss its deadline with one more.
 #[tactic(auto, unfolding(crate::specs::Details::margin_line))]
 fn push_margin_line(
     out: &mut Vec<u8>,
@@ -65,7 +65,7 @@ fn push_margin_line(
     )
 }
 
-/// The message at a place, if one is told.
+/// Returns the message at a place, if a place is given and has one.
 fn told(planned: &[Planned], place: Option<usize>) -> Option<Planned>
     ensures { result ≡ planned_at planned.now place }
 {
@@ -75,14 +75,14 @@ fn told(planned: &[Planned], place: Option<usize>) -> Option<Planned>
     }
 }
 
-/// The message at a place, if there is one.
+/// Returns the message at a place, if there is one.
 fn message_at(planned: &[Planned], place: usize) -> Option<Planned>
     ensures { result ≡ slice_get planned.now place }
 {
     planned.get(place).copied()
 }
 
-/// Appends the message that may be late with so much, and the end of the line.
+/// Appends the message that may miss its deadline with `more` units, and the end of the line.
 fn push_late(
     out: &mut Vec<u8>,
     unit: &[u8],
@@ -97,7 +97,7 @@ fn push_late(
     }
 }
 
-/// Appends a message that may be late with so much.
+/// Appends a message that may miss its deadline with `more` units.
 fn push_late_message(
     out: &mut Vec<u8>,
     unit: &[u8],

@@ -1,43 +1,42 @@
-//! Networks as documents say them, and what the analysis of can_plan answers of their messages, as text; and the worst
-//! case of a message, where nothing is hit: frames that are offered so that one of its own comes as late as can be, and
-//! their scenario, which can be run bit by bit. With them what the program `canplan` does with the words of its command
-//! line, over any reader and writers; the contract of `execute` says for each outcome what was read and written.
-//! (docs/PLANNING.md, "`canplan`" and "The worst case")
+//! Networks in documents, and the analysis of can_plan for their messages, as text. Also the worst case of a message
+//! without hits, and its scenario, which can be run bit by bit: frames are offered so that one of the message's own has
+//! the longest response time. And what the program `canplan` does, over any reader and writers; the contract of
+//! `execute` states what was read and written for each outcome. (docs/PLANNING.md, "`canplan`" and "The worst case")
 //!
 //! | File | What it has | Defined in |
 //! |---|---|---|
-//! | `plan.rt` | [`Plan`], a network that was read: its messages in the order of arbitration | `specs/Plans.antt` |
+//! | `plan.rt` | [`Plan`], a network that was read: its messages, highest priority first | `specs/Plans.antt` |
 //! | `document.rt` | the document, and its fields at the top | `specs/Plans.antt` |
-//! | `messages.rt` | its messages, one after another; [`head_of`], a frame's text without its DLC | `specs/Plans.antt` |
+//! | `messages.rt` | its messages, one after another; [`head_of`], from a frame's text without its DLC | `specs/Plans.antt` |
 //! | `name.rt` | [`Name`], the name of a message | `specs/Names.antt` |
-//! | `names.rt` | names in documents, of which no two are one | `specs/Names.antt` |
+//! | `names.rt` | names in documents, of which no two are the same | `specs/Names.antt` |
 //! | `times.rt` | microseconds as whole bit times, and back | `specs/Times.antt` |
-//! | `order.rt` | messages in the order of arbitration | `specs/Plans.antt` |
-//! | `verdict.rt` | [`Analysis`], what is answered of a network, a [`Verdict`] for each message | `specs/Answers.antt` |
-//! | `analysis.rt` | [`analysed`], which answers it by can_plan | `specs/Answers.antt` |
-//! | `latest.rt` | which frame of each message is the latest, and makes its bound: a `Detail`, of `detail.rt` | `specs/Details.antt` |
-//! | `left.rt` | how much is left of a network: `Left` | `specs/Details.antt` |
-//! | `answer.rt` | [`answered`] and [`answered_in`], a document in, the answer to it out | `specs/Report.antt`, `specs/Details.antt` |
-//! | `report.rt` | [`push_report`], the answer as text | `specs/Report.antt` |
-//! | `details.rt`, `left_text.rt` | the answer with details, as text | `specs/Details.antt` |
-//! | `laws.rt` | [`one_plan_field`]: of bytes at most one field is told | `specs/Plans.antt` |
-//! | `fault.rt` | [`PlanFault`], why a document is not read | |
-//! | `field.rt` | [`PlanField`], what is wrong in one | |
-//! | `timelines.rt` | [`timeline`], a network's document and the name of a message in, the scenario out | `specs/Timelines.antt` |
+//! | `order.rt` | messages in the order of priority | `specs/Plans.antt` |
+//! | `verdict.rt` | [`Analysis`] of a network, with a [`Verdict`] for each message | `specs/Answers.antt` |
+//! | `analysis.rt` | [`analysed`], the analysis by can_plan | `specs/Answers.antt` |
+//! | `latest.rt` | the latest frame of each message, which decides its bound: a `Detail`, of `detail.rt` | `specs/Details.antt` |
+//! | `left.rt` | the margins of a network: `Left` | `specs/Details.antt` |
+//! | `answer.rt` | [`answered`] and [`answered_in`], from a document to the output | `specs/Report.antt`, `specs/Details.antt` |
+//! | `report.rt` | [`push_report`], the output as text | `specs/Report.antt` |
+//! | `details.rt`, `left_text.rt` | the output with details, as text | `specs/Details.antt` |
+//! | `laws.rt` | [`one_plan_field`]: at most one field of bytes counts as the wrong one | `specs/Plans.antt` |
+//! | `fault.rt` | [`PlanFault`], why a document is refused | |
+//! | `field.rt` | [`PlanField`], what is wrong in a document | |
+//! | `timelines.rt` | [`timeline`], from a network's document and the name of a message to the scenario | `specs/Timelines.antt` |
 //! | `case.rt` | [`WorstCase`], which frames are offered when | `specs/Worst.antt` |
-//! | `worst.rt` | [`worst_case`], which are in the worst case | `specs/Worst.antt` |
-//! | `period.rt` | for how long they keep the bus busy | `specs/Worst.antt` |
+//! | `worst.rt` | [`worst_case`], the worst case of a message | `specs/Worst.antt` |
+//! | `period.rt` | the busy period of a worst case | `specs/Worst.antt` |
 //! | `frames.rt` | a message's longest frame | `specs/Worst.antt` |
 //! | `scenario.rt` | [`push_scenario`], the scenario as text | `specs/Scenario.antt` |
 //! | `named.rt` | which message has a name | `specs/Timelines.antt` |
-//! | `worst_laws.rt` | [`worst_cases_keep_to_messages`]: bounds speak of these frames | `specs/Keeping.antt` |
+//! | `worst_laws.rt` | [`worst_cases_keep_to_messages`]: bounds apply to the frames of worst cases | `specs/Keeping.antt` |
 //! | `worst_fault.rt` | [`WorstFault`], why there is no scenario | |
-//! | `words.rt` | [`Asked`], what the words of a command line ask for: an answer, with details or without, a scenario, the help text, or the version | `specs/Words.antt` |
+//! | `words.rt` | [`Asked`], what the words of a command line ask for: bounds, with or without details, a scenario, the help text, or the version | `specs/Words.antt` |
 //! | `help.rt` | [`HELP`], the help text; [`VERSION`] | |
-//! | `canplan_fault.rt` | [`CanplanFault`], why a run did not do all that it was asked | `specs/Status.antt` |
-//! | `answering.rt` | a reader's document in, the answer to it out to a writer | `specs/Runs.antt` |
-//! | `drawing.rt` | a reader's document in, the scenario of a message's worst case out to a writer | `specs/Runs.antt` |
-//! | `executing.rt` | [`execute`], what a run does, its fault line and its exit status | `specs/Runs.antt` |
+//! | `canplan_fault.rt` | [`CanplanFault`], why a run has not done all that was asked | `specs/Status.antt` |
+//! | `answering.rt` | reads a document, and writes the output for it | `specs/Runs.antt` |
+//! | `drawing.rt` | reads a document, and writes the scenario of a message's worst case | `specs/Runs.antt` |
+//! | `executing.rt` | [`execute`], a run, with the line of its fault and its exit status | `specs/Runs.antt` |
 #![tactic(auto)]
 
 mod analysis;

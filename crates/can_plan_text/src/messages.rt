@@ -27,16 +27,16 @@ use toml::{Table, Value};
 /// The fields that a message may have.
 const MESSAGE_FIELDS: [&str; 6] = ["frame", "dlc", "period", "jitter", "deadline", "name"];
 
-/// The DLC of a message where nothing is said.
+/// The DLC of a message if it is left out.
 const USUAL_DLC: u64 = 8;
 
 /// The greatest DLC.
 const MOST_DLC: u64 = 15;
 
-/// How many bytes a frame's text has at most.
+/// The length of the longest frame text, in bytes.
 const LONGEST_TEXT: usize = 32;
 
-/// The messages that these tables say, one after another.
+/// Returns the messages in these tables, one after another.
 pub(crate) fn read_messages(
     alloc: Global,
     wires: &LongestWires,
@@ -55,7 +55,7 @@ pub(crate) fn read_messages(
     Ok(listed)
 }
 
-/// The message at this place, whose table this is.
+/// Returns the message at this place, which has this table.
 fn read_message(
     wires: &LongestWires,
     place: usize,
@@ -72,7 +72,7 @@ fn read_message(
     Ok(planned(wires, rate, &said))
 }
 
-/// What the fields of a message say. Times are as the document has them.
+/// The fields of a message. Times are as in the document.
 #[derive(Clone, Copy)]
 pub(crate) struct Fields {
     pub(crate) head: Frame,
@@ -119,7 +119,7 @@ fn read_fields(place: usize, rate: u32, fields: &Table) -> Result<Fields, PlanFa
     })
 }
 
-/// The frame with DLC 0 of which a message has the identifier and the kind.
+/// Returns the frame with DLC 0 that has the identifier and the kind of the message.
 fn head(fields: &Table) -> Option<Frame>
     ensures said { IfSome result (NamesHead (table (table_view fields.now))) }
     ensures met { OnSome result (IsRequired IsHead (named (codes "frame") (table (table_view fields.now)))) }
@@ -128,7 +128,7 @@ fn head(fields: &Table) -> Option<Frame>
     head_of(field(fields, "frame")?.as_str()?.as_bytes())
 }
 
-/// The frame of whose text this is all but the DLC, which is 0.
+/// Returns the frame with DLC 0 whose text is this one, with a space and `0` appended.
 pub fn head_of(text: &[u8]) -> Option<Frame>
     ensures said { IfSome result (IsHeadText text.now) }
     ensures unmet { IfNone result (¬ ((f : Parts) × IsHeadText text.now f)) }
@@ -139,7 +139,7 @@ pub fn head_of(text: &[u8]) -> Option<Frame>
     Frame::from_text(&whole).ok()
 }
 
-/// The period, which has a bit time at least.
+/// Returns the period, which is at least one bit time.
 fn period(rate: u32, fields: &Table) -> Option<u32>
     requires { rate ≤ 1000000 }
     ensures said { IfSome result (λ period. IsRequired (IsNumber period) (named (codes "period") (table (table_view fields.now)))) }
@@ -151,7 +151,7 @@ fn period(rate: u32, fields: &Table) -> Option<u32>
     (bits_down(rate, said) > 0).then_some(said)
 }
 
-/// The message whose fields say this, in whole bit times.
+/// Returns the message with these fields, in whole bit times.
 fn planned(wires: &LongestWires, rate: u32, said: &Fields) -> Planned
     requires slow { rate ≤ 1000000 }
     requires dlc { said.now.dlc < 16 }

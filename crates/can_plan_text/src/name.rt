@@ -1,7 +1,7 @@
 //! The name of a message.
 ghost use Rattle.std.specs.Prelude.{◌≤◌};
 
-/// How many bytes the name of a message has at most.
+/// The greatest length of a message's name, in bytes.
 pub const LONGEST_NAME: usize = 64;
 
 /// The name of a message.
@@ -16,7 +16,7 @@ impl Name {
     ghost use Rattle.std.specs.Prelude.{◌≡◌, length};
     ghost use Rattle.can_plan_text.specs.Names.{name_bytes};
 
-    /// The name of these bytes.
+    /// Returns the name with these bytes.
     pub(crate) fn of(text: &[u8]) -> Name
         requires { length text.now ≤ 64 }
         ensures { name_bytes result ≡ text.now }
@@ -29,7 +29,7 @@ impl Name {
         }
     }
 
-    /// Its characters: 1 to 64 printable ones of ASCII.
+    /// Returns its characters: 1 to 64 printable ones of ASCII.
     pub fn as_bytes(&self) -> &[u8]
         ensures { result.now ≡ name_bytes self.now }
     {

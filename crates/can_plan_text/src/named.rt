@@ -7,14 +7,15 @@ use crate::messages::head_of;
 use crate::plan::Planned;
 use can_frame::Key;
 
-/// The place of the message that has this name, a frame's text up to the blank before its DLC.
+/// Returns the place of the message with this name, which is the text of one of its frames before the space and the
+/// DLC.
 pub(crate) fn place_of(messages: &[Planned], name: &[u8]) -> Option<usize>
     ensures { MatchOption result (IsUnnamed name.now messages.now) (IsNamedAt name.now messages.now) }
 {
     place_of_field(messages, head_of(name)?.key())
 }
 
-/// The place of the message whose frames have this arbitration field.
+/// Returns the place of the message whose frames have this arbitration field.
 fn place_of_field(messages: &[Planned], field: Key) -> Option<usize>
     ensures { MatchOption result ((n : ℕ) (p : Message) → slice_get messages.now n ≡ Some p → p.message.field ≢ field)
         (λ n. (p : Message) × (slice_get messages.now n ≡ Some p) × (p.message.field ≡ field)) }

@@ -15,7 +15,7 @@ use crate::plan::Planned;
 use document_values::field;
 use toml::Table;
 
-/// The name that the fields of a message say, if they say one.
+/// Returns the name in the fields of a message, if they have one. `None`: the field is wrong.
 pub(crate) fn name(fields: &Table) -> Option<Option<Name>>
     ensures said { IfSome result (SaysName (named (codes "name") (table (table_view fields.now)))) }
     ensures met { OnSome result (IsOptional IsNameValue (named (codes "name") (table (table_view fields.now)))) }
@@ -27,7 +27,7 @@ pub(crate) fn name(fields: &Table) -> Option<Option<Name>>
     Some(Some(name_of(value.as_str()?)?))
 }
 
-/// The name that a text is.
+/// Returns the name with this text, or `None` if it is not one.
 fn name_of(text: &str) -> Option<Name>
     ensures said { IfSome result (λ name. name_bytes name ≡ text.now) }
     ensures met { OnSome result (IsMessageName text.now) }
@@ -39,28 +39,28 @@ fn name_of(text: &str) -> Option<Name>
     Some(Name::of(text.as_bytes()))
 }
 
-/// Whether a text is 1 to 64 printable characters of ASCII, none of them a quotation mark or a backslash.
+/// Returns whether a text is 1 to 64 printable characters of ASCII, none of them a quotation mark or a backslash.
 fn is_name(text: &str) -> bool
     ensures { IsTrue result ↔ IsMessageName text.now }
 {
     !text.is_empty() && text.len() <= LONGEST_NAME && are_of_names(text.as_bytes())
 }
 
-/// Whether all are such characters.
+/// Returns whether all of these are such characters.
 fn are_of_names(bytes: &[u8]) -> bool
     ensures { result ≡ list_all is_of_name bytes.now }
 {
     bytes.iter().all(|byte| is_name_byte(*byte))
 }
 
-/// Whether it is such a character.
+/// Returns whether this is such a character.
 fn is_name_byte(byte: u8) -> bool
     ensures { result ≡ is_of_name byte }
 {
     matches!(byte, b' '..=b'!' | b'#'..=b'[' | b']'..=b'~')
 }
 
-/// Refuses the first message that has the name of one before it.
+/// Refuses the first message that has the name of an earlier one.
 pub(crate) fn refuse_same_names(listed: &[Planned]) -> Result<(), PlanFault>
     ensures apart { OnOk result (HaveOwnNames (length listed.now) listed.now) }
     ensures repeated { (wrong : Wrong) → IsErrOf result (PlanFault.Field wrong) → IsNamedAgain wrong listed.now }
@@ -73,14 +73,14 @@ pub(crate) fn refuse_same_names(listed: &[Planned]) -> Result<(), PlanFault>
     Ok(())
 }
 
-/// Whether one of these messages has the name of this one.
+/// Returns whether one of these messages has the name of this one.
 fn is_named_before(earlier: &[Planned], planned: &Planned) -> bool
     ensures { result ≡ list_any (λ other. are_one_name planned.now.name other.name) earlier.now }
 {
     earlier.iter().any(|other| have_one_name(planned, other))
 }
 
-/// Whether both have a name, and the same.
+/// Returns whether both have a name, and the same.
 fn have_one_name(planned: &Planned, other: &Planned) -> bool
     ensures { result ≡ are_one_name planned.now.name other.now.name }
 {
@@ -90,7 +90,7 @@ fn have_one_name(planned: &Planned, other: &Planned) -> bool
     }
 }
 
-/// Whether a message has this name.
+/// Returns whether a message has this name.
 fn has_name(planned: &Planned, name: &[u8]) -> bool
     ensures { result ≡ is_named planned.now.name name.now }
 {

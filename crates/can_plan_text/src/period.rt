@@ -1,4 +1,4 @@
-//! For how long the bus is busy with the frames of a worst case.
+//! The busy period of a worst case.
 ghost use Rattle.std.specs.Prelude.{◌≡◌, ◌+◌, ◌*◌, ◌^◌, ◌<◌, ◌≤◌, ℕ, MatchOption};
 ghost use Rattle.can_plan.specs.Analysis.{IsLeast};
 ghost use Rattle.can_plan_text.specs.Worst.{IsBusyPeriod, load_of, most_long};
@@ -6,10 +6,10 @@ ghost use Rattle.can_plan_text.specs.Worst.{IsBusyPeriod, load_of, most_long};
 use crate::plan::Planned;
 use can_plan::own_load;
 
-/// For how many bit times a worst case may keep the bus busy, at most: a scenario has one more.
+/// The longest busy period of a worst case in bit times: a scenario has one more.
 const MOST_LONG: u64 = 999_999;
 
-/// How long the frames of these messages keep the bus; none where it is longer than a scenario.
+/// Returns how long the frames of these messages keep the bus, or `None` if that is longer than a scenario.
 fn load(level: &[Planned], long: u64) -> Option<u64>
     requires { long ≤ 2 ^ 32 }
     ensures { MatchOption result (most_long < load_of level.now long) (λ n. (n ≡ load_of level.now long) × (n ≤ most_long)) }
@@ -24,7 +24,7 @@ fn load(level: &[Planned], long: u64) -> Option<u64>
     Some(total)
 }
 
-/// The same with what is left of a frame that blocks them.
+/// Returns this with what is left of a frame that blocks them.
 fn kept(blocking: u16, level: &[Planned], long: u64) -> Option<u64>
     requires { long ≤ 2 ^ 32 }
     ensures { MatchOption result (most_long < blocking + load_of level.now long) (λ n. (n ≡ blocking + load_of level.now long) × (n ≤ most_long)) }
@@ -33,8 +33,9 @@ fn kept(blocking: u16, level: &[Planned], long: u64) -> Option<u64>
     if total > MOST_LONG { None } else { Some(total) }
 }
 
-/// The busy period of these messages, where a frame that blocks them has so much left: the least number of bit times
-/// within which all of them that arrive have been sent. None where it is longer than a scenario.
+/// Returns the busy period of these messages if a frame that blocks them has `blocking` bit times left: the least
+/// number of bit times, above 0, within which this frame and all of their frames that arrive have been sent. `None`: it
+/// is longer than a scenario.
 pub(crate) fn busy_period(blocking: u16, level: &[Planned]) -> Option<u64>
     ensures { MatchOption result ((n : ℕ) → IsBusyPeriod blocking level.now n → most_long < n)
         (λ long. (long ≤ most_long) × IsLeast (IsBusyPeriod blocking level.now) long) }

@@ -13,16 +13,16 @@ use can_longest::LongestWires;
 use can_plan::{HitRate, Message};
 use std::alloc::Global;
 
-/// A message, by when its frames have to end, and what it is called. All times are whole bit times.
+/// A message with its deadline and its name. All times are whole bit times.
 #[derive(Clone, Copy, Debug)]
 pub struct Planned {
-    /// The frame with DLC 0 of the identifier and the kind of the message's frames.
+    /// The frame with DLC 0 that has the identifier and the kind of the message's frames.
     pub head: Frame,
     /// The DLC of its frames.
     pub dlc: u8,
-    /// What the analysis has to know of it.
+    /// What the analysis needs of it.
     pub message: Message,
-    /// How long behind its release the last level of its end of frame has passed at the latest.
+    /// The longest response time allowed: from the release of a frame to the last level of its end of frame.
     pub deadline: u32,
     /// Its name, if it has one.
     pub name: Option<Name>,
@@ -31,12 +31,12 @@ pub struct Planned {
     ghost sized: { 0 < message.longest },
 }
 
-/// A network: its messages in the order of arbitration, 1 to 512 of them, and how often the bus is hit.
+/// A network: its messages, 1 to 512 of them, highest priority first, and its error model.
 #[derive(Debug, Drop)]
 pub struct Plan {
-    /// How many bits a second the document's times are told by; 0 where it has them in bit times.
+    /// The bit rate in bits a second, with which the document's times were converted; 0 if it has them in bit times.
     pub rate: u32,
-    /// How often the bus is hit at most; none where the document tells of no errors.
+    /// The error model; `None` if the document has no errors.
     pub errors: Option<HitRate>,
     pub messages: Vec<Planned>,
     ghost few: { length messages.items ≤ 512 },
@@ -48,17 +48,34 @@ impl Plan {
     ghost use Rattle.can_plan_text.specs.Answers.{hit_rate_of};
     ghost use Rattle.can_plan_text.specs.Plans.{IsPlanText, IsWrongPlanField};
 
-    /// The network that a TOML document says: `version`, which is 1; `rate`, bits a second, 0 to 1000000; `errors`, a
-    /// table of `burst`, 0 to 65535, and `spacing`; and `message`, an array of 1 to 512 tables. A message has `frame`,
-    /// as `S 100 D`, `dlc`, 0 to 15, `period`, above 0, `jitter`, `deadline` and `name`, 1 to 64 printable characters of
-    /// ASCII, none of them a quotation mark or a backslash. Times are whole numbers up to 4294967295, of microseconds
-    /// where there is a rate above 0, else of bit times. All but `version`, `message`, `frame` and `period` may be left
-    /// out: `dlc` is then 8, `deadline` the period, any other number 0, and the message has no name.
+    /// Returns the network in a TOML document.
     ///
-    /// `Field` names the first field that is wrong, in this order: the document; an unknown field; `version`; `rate`;
-    /// `errors`, an unknown field of it, `burst` and `spacing`; `message`; of each message its table, an unknown field,
-    /// `frame`, `dlc`, `period`, `jitter`, `deadline` and `name`; then the first message whose frames have the arbitration
-    /// field of one before it, and the first that has the name of one before it. `Memory` says that memory ran out.
+    /// | Field | Value | If left out |
+    /// |---|---|---|
+    /// | `version` | 1 | refused |
+    /// | `rate` | bits a second, 0 to 1000000 | 0 |
+    /// | `errors` | a table | no hits |
+    /// | `burst`, in `errors` | 0 to 65535 | 0 |
+    /// | `spacing`, in `errors` | a time, 0 or at least one bit time | 0 |
+    /// | `message` | an array of 1 to 512 tables | refused |
+    /// | `frame`, of a message | as `S 100 D` | refused |
+    /// | `dlc` | 0 to 15 | 8 |
+    /// | `period` | a time, at least one bit time | refused |
+    /// | `jitter` | a time | 0 |
+    /// | `deadline` | a time | the period |
+    /// | `name` | 1 to 64 printable characters of ASCII, none of them a quotation mark or a backslash | no name |
+    ///
+    /// Times are whole numbers, 0 to 4294967295: microseconds if `rate` is above 0, otherwise bit times.
+    ///
+    /// `Field` is the first field that is wrong, in this order:
+    ///
+    /// - the document; an unknown field; `version`; `rate`; `errors`, an unknown field of it, `burst` and `spacing`;
+    ///   `message`
+    /// - of each message its table, an unknown field, `frame`, `dlc`, `period`, `jitter`, `deadline` and `name`
+    /// - the first message whose frames have the arbitration field of an earlier one
+    /// - the first message that has the name of an earlier one
+    ///
+    /// `Memory`: memory ran out.
     pub fn from_text(alloc: Global, text: &[u8]) -> Result<Plan, PlanFault>
         ensures found { IfOk result (IsPlanText text.now) }
         ensures wrong { (wrong : Wrong) → IsErrOf result (PlanFault.Field wrong) → IsWrongPlanField wrong text.now }
@@ -76,7 +93,7 @@ impl Plan {
         })
     }
 
-    /// How often the bus is hit at most.
+    /// Returns the error model of the network. Without errors in the document no hits come.
     pub fn hit_rate(&self) -> HitRate
         ensures { result ≡ hit_rate_of self.now.errors }
     {

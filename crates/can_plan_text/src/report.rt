@@ -1,4 +1,4 @@
-//! The answer to a network, as text.
+//! The output for a network, as text.
 ghost use Rattle.std.specs.Prelude.{◌≡◌, ◌++◌, ◌^◌, ◌<◌, codes, decimal, OnOk};
 ghost use Rattle.std.specs.List.{flat_map};
 ghost use Rattle.can_plan_text.specs.Report.{borne_line, bound_text, end_text, first_line, message_head, last_line, load_thousandths, message_line, outcome_text, quoted_text, plan_report, share_of, slack_text, thousandths, times_text};
@@ -9,15 +9,15 @@ use can_plan::Borne;
 use document_values::{push_named, push_number, push_text};
 use std::alloc::AllocError;
 
-/// How many billionths a whole has.
+/// How many billionths make one.
 const BILLION: u64 = 1_000_000_000;
 
-/// How many billionths a thousandth has.
+/// How many billionths make one thousandth.
 const MILLION: u64 = 1_000_000;
 
-/// Appends the answer to a network whose times are told by this rate: a line for the whole, one for each message in the
-/// order of arbitration, and one that counts those that are late; where the document has errors, one that tells for how
-/// long they are borne. Each ends with 0x0a.
+/// Appends the output for a network with this bit rate: a line for the network, one for each message, highest priority
+/// first, and one with the number of those that may miss their deadline. If the document has errors, a last line has
+/// how long they are tolerated. Each line ends with 0x0a.
 pub fn push_report(out: &mut Vec<u8>, rate: u32, analysis: &Analysis) -> Result<(), AllocError>
     ensures { OnOk result (out.new.items ≡ out.old.items ++ plan_report rate analysis.now) }
 {
@@ -27,7 +27,7 @@ pub fn push_report(out: &mut Vec<u8>, rate: u32, analysis: &Analysis) -> Result<
     push_borne(out, analysis.borne)
 }
 
-/// Appends the line of the whole: how many messages there are, their load, and the rate.
+/// Appends the line of the network: the number of its messages, their load, and the bit rate.
 #[tactic(auto, unfolding(crate::specs::Report::first_line))]
 pub(crate) fn push_first(
     out: &mut Vec<u8>,
@@ -67,7 +67,7 @@ pub(crate) fn push_message(out: &mut Vec<u8>, verdict: &Verdict) -> Result<(), A
     push_end(out, &verdict.planned)
 }
 
-/// Appends what a message's frames have in common: a frame's text up to its DLC.
+/// Appends the text of a message's frames before the data: kind, identifier and DLC.
 pub(crate) fn push_head(out: &mut Vec<u8>, planned: &Planned) -> Result<(), AllocError>
     ensures { OnOk result (out.new.items ≡ out.old.items ++ message_head planned.now) }
 {
@@ -97,7 +97,7 @@ fn push_bound(out: &mut Vec<u8>, bound: Option<u64>) -> Result<(), AllocError>
     }
 }
 
-/// Appends by how much a bound is within the deadline, or that a frame may be late.
+/// Appends how many bit times a bound is within the deadline, or that a frame may miss it.
 fn push_outcome(out: &mut Vec<u8>, deadline: u64, bound: Option<u64>) -> Result<(), AllocError>
     ensures { OnOk result (out.new.items ≡ out.old.items ++ outcome_text deadline bound) }
 {
@@ -107,7 +107,7 @@ fn push_outcome(out: &mut Vec<u8>, deadline: u64, bound: Option<u64>) -> Result<
     }
 }
 
-/// Appends by how much a bound is within the deadline.
+/// Appends how much a bound is within the deadline.
 pub(crate) fn push_slack(out: &mut Vec<u8>, slack: u64) -> Result<(), AllocError>
     ensures { OnOk result (out.new.items ≡ out.old.items ++ slack_text slack) }
 {
@@ -134,7 +134,7 @@ fn push_quoted(out: &mut Vec<u8>, name: &[u8]) -> Result<(), AllocError>
     push_text(out, b"\"\n")
 }
 
-/// Appends the line that counts the messages that may be late.
+/// Appends the line with the number of messages that may miss their deadline.
 #[tactic(auto, unfolding(crate::specs::Report::last_line))]
 pub(crate) fn push_last(out: &mut Vec<u8>, analysis: &Analysis) -> Result<(), AllocError>
     ensures { OnOk result (out.new.items ≡ out.old.items ++ last_line analysis.now.verdicts.items) }
@@ -144,7 +144,7 @@ pub(crate) fn push_last(out: &mut Vec<u8>, analysis: &Analysis) -> Result<(), Al
     push_ended(out, b" of ", analysis.verdicts.len() as u64)
 }
 
-/// Appends the line that tells for how long hits are borne.
+/// Appends the line with how long hits are tolerated.
 pub(crate) fn push_borne(out: &mut Vec<u8>, borne: Option<Borne>) -> Result<(), AllocError>
     ensures { OnOk result (out.new.items ≡ out.old.items ++ borne_line borne) }
 {
@@ -156,7 +156,7 @@ pub(crate) fn push_borne(out: &mut Vec<u8>, borne: Option<Borne>) -> Result<(), 
     }
 }
 
-/// Appends a word, and the load of all messages behind it.
+/// Appends a word, and the load of all messages.
 fn push_load(out: &mut Vec<u8>, word: &[u8], analysis: &Analysis) -> Result<(), AllocError>
     ensures { OnOk result (out.new.items ≡ out.old.items ++ (word.now ++ thousandths (load_thousandths analysis.now.verdicts.items))) }
 {
@@ -164,7 +164,7 @@ fn push_load(out: &mut Vec<u8>, word: &[u8], analysis: &Analysis) -> Result<(), 
     push_thousandths(out, load(analysis))
 }
 
-/// The load of all messages, in thousandths.
+/// Returns the load of all messages, in thousandths.
 fn load(analysis: &Analysis) -> u64
     ensures { result ≡ load_thousandths analysis.now.verdicts.items }
 {
@@ -175,7 +175,7 @@ fn load(analysis: &Analysis) -> u64
     total / MILLION
 }
 
-/// Which part of the time a message's frames take at most, in billionths.
+/// Returns the share of the time that a message's frames take at most, in billionths, rounded up.
 fn share(verdict: &Verdict) -> u64
     ensures value { result ≡ share_of verdict.now }
     ensures range { result < 2 ^ 47 }
@@ -185,7 +185,7 @@ fn share(verdict: &Verdict) -> u64
     (u64::from(message.longest) * BILLION + period - 1) / period
 }
 
-/// Appends a word, a number in decimal behind it, and the end of the line.
+/// Appends a word, a decimal number, and the end of the line.
 pub(crate) fn push_ended(out: &mut Vec<u8>, word: &[u8], number: u64) -> Result<(), AllocError>
     ensures { OnOk result (out.new.items ≡ out.old.items ++ (word.now ++ (decimal number ++ codes "\n"))) }
 {

@@ -1,4 +1,4 @@
-//! The worst case of a message as a scenario, a document of TOML.
+//! The worst case of a message as a scenario, a TOML document.
 ghost use Rattle.std.specs.Prelude.{◌≡◌, ◌++◌, codes, decimal, drop, take, OnOk};
 ghost use Rattle.std.specs.List.{flat_map};
 ghost use Rattle.can_plan_text.specs.Scenario.{head_lines, log_room as log_room_of, offer_line, offer_lines, own_port, own_ports, port_begin, port_end, scenario_text, shared_port};
@@ -8,15 +8,15 @@ use can_frame::Frame;
 use document_values::{push_number, push_text};
 use std::alloc::AllocError;
 
-/// How many ports have the frames of one message alone. One more has the others, or listens.
+/// How many ports have the frames of a single message. One more has those of the others, or listens.
 const OWN_PORTS: usize = 63;
 
-/// How many entries a log may have room for.
+/// The greatest capacity of a log, in entries.
 const MOST_LOG_ROOM: u64 = 65_536;
 
-/// Appends the scenario of a worst case, of version 2 of the format: for each message a port, whose queue has its frame
-/// with the times of its offers, and one more port, which listens. Of more than 63 messages the last port has those from
-/// the 64th on. Each log has room for all frames.
+/// Appends the scenario of a worst case, in version 2 of the format. Each message has a port, whose queue has its frame
+/// with the times of its offers. One more port listens; if there are more than 63 messages, it has those from the 64th
+/// on. Each log has the capacity for all frames, but at most 65,536.
 pub fn push_scenario(out: &mut Vec<u8>, worst: &WorstCase) -> Result<(), AllocError>
     ensures { OnOk result (out.new.items ≡ out.old.items ++ scenario_text worst.now) }
 {
@@ -27,7 +27,7 @@ pub fn push_scenario(out: &mut Vec<u8>, worst: &WorstCase) -> Result<(), AllocEr
     push_shared_port(out, room, shared)
 }
 
-/// Those that have ports of their own, and the others.
+/// Returns the messages that have ports of their own, and the others.
 fn divided(sequences: &[Sequence]) -> (&[Sequence], &[Sequence])
     ensures own { result.0.now ≡ take own_ports sequences.now }
     ensures shared { result.1.now ≡ drop own_ports sequences.now }
@@ -43,7 +43,7 @@ fn push_head(out: &mut Vec<u8>, bits: u64) -> Result<(), AllocError>
     push_line(out, b"version = 2\nbits = ", bits)
 }
 
-/// For how many entries each log has room: for all frames, or for as many as it may have.
+/// Returns the capacity of each log in entries: the number of all frames, but at most the greatest capacity.
 fn log_room(sequences: &[Sequence]) -> u64
     ensures { result ≡ log_room_of sequences.now }
 {
@@ -86,7 +86,7 @@ fn push_shared_port(out: &mut Vec<u8>, room: u64, sequences: &[Sequence]) -> Res
     push_end(out, room)
 }
 
-/// Appends what stands before the offers to a port.
+/// Appends the text before the offers to a port.
 #[tactic(auto, unfolding(crate::specs::Scenario::port_begin))]
 fn push_begin(out: &mut Vec<u8>) -> Result<(), AllocError>
     ensures { OnOk result (out.new.items ≡ out.old.items ++ port_begin) }
@@ -94,7 +94,7 @@ fn push_begin(out: &mut Vec<u8>) -> Result<(), AllocError>
     push_text(out, b"\n[[port]]\nqueue = [\n")
 }
 
-/// Appends what stands behind them.
+/// Appends the text after the offers.
 #[tactic(auto, unfolding(crate::specs::Scenario::port_end))]
 fn push_end(out: &mut Vec<u8>, room: u64) -> Result<(), AllocError>
     ensures { OnOk result (out.new.items ≡ out.old.items ++ port_end room) }
@@ -102,7 +102,7 @@ fn push_end(out: &mut Vec<u8>, room: u64) -> Result<(), AllocError>
     push_line(out, b"]\nlog = ", room)
 }
 
-/// Appends a text, a number in decimal behind it, and the end of the line.
+/// Appends a text, a decimal number, and the end of the line.
 fn push_line(out: &mut Vec<u8>, text: &[u8], number: u64) -> Result<(), AllocError>
     ensures { OnOk result (out.new.items ≡ out.old.items ++ (text.now ++ (decimal number ++ codes "\n"))) }
 {

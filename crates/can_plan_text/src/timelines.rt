@@ -1,4 +1,4 @@
-//! A network's document and the name of a message in, the scenario of its worst case out.
+//! From a network's document and the name of a message to the scenario of its worst case.
 ghost use Rattle.std.specs.Prelude.{◌≡◌, IfOk, IsErrOf};
 ghost use Rattle.can_plan_text.specs.declared.field.PlanField.{PlanField as Wrong};
 ghost use Rattle.can_plan_text.specs.Plans.{IsWrongPlanField};
@@ -12,12 +12,14 @@ use crate::worst_fault::WorstFault;
 use can_longest::LongestWires;
 use std::alloc::Global;
 
-/// The scenario of the worst case of a message, where nothing is hit, for the document of a network and the name of the
-/// message: a frame's text up to the blank before its DLC, as `S 300 D`, of whose arbitration field its frames are.
+/// Returns the scenario of the worst case of a message, without hits. `document` is that of the network. `name` is the
+/// text of a frame before the space and the DLC, such as `S 300 D`; the message is the one whose frames have its
+/// arbitration field.
 ///
-/// `Field` names the first field of the document that isn't as it has to be, as [`Plan::from_text`] does. `Unknown` says
-/// that no message has the name, `TooLong` that the bus is busy for longer than a scenario may have bit times, and
-/// `Memory` that memory ran out.
+/// - `Field`: the first field of the document that is wrong, as [`Plan::from_text`] finds it.
+/// - `Unknown`: no message has the name.
+/// - `TooLong`: the bus is busy for longer than the longest scenario.
+/// - `Memory`: memory ran out.
 pub fn timeline(alloc: Global, document: &[u8], name: &[u8]) -> Result<Vec<u8>, WorstFault>
     ensures found { IfOk result (λ scenario. IsTimeline document.now name.now scenario.items) }
     ensures wrong { (wrong : Wrong) → IsErrOf result (WorstFault.Field wrong) → IsWrongPlanField wrong document.now }

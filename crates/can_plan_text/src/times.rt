@@ -2,10 +2,11 @@
 ghost use Rattle.std.specs.Prelude.{◌≡◌, ◌^◌, ◌<◌, ◌≤◌};
 ghost use Rattle.can_plan_text.specs.Times.{bits_down as bits_within, bits_up as bits_around, time_down as time_within, time_up as time_around};
 
-/// How many microseconds a second has. At no rate above so many bits a second is a time more bit times than microseconds.
+/// The number of microseconds in a second. At no bit rate up to and including this number does a time have more bit
+/// times than microseconds.
 const SECOND: u64 = 1_000_000;
 
-/// How many whole bit times there are in so long a time at most; where the rate is 0, the time is in bit times.
+/// Returns this time in whole bit times, rounded down. If the rate is 0, the time is in bit times.
 pub(crate) fn bits_down(rate: u32, time: u32) -> u32
     requires { rate ≤ 1000000 }
     ensures { result ≡ bits_within rate time }
@@ -17,7 +18,7 @@ pub(crate) fn bits_down(rate: u32, time: u32) -> u32
     }
 }
 
-/// The least number of whole bit times that are as long as this time.
+/// Returns this time in whole bit times, rounded up. If the rate is 0, the time is in bit times.
 pub(crate) fn bits_up(rate: u32, time: u32) -> u32
     requires { rate ≤ 1000000 }
     ensures { result ≡ bits_around rate time }
@@ -29,7 +30,7 @@ pub(crate) fn bits_up(rate: u32, time: u32) -> u32
     }
 }
 
-/// How many whole microseconds so many bit times have at most.
+/// Returns these bit times in whole microseconds, rounded down.
 pub(crate) fn time_down(rate: u32, bits: u64) -> u64
     requires some { 0 < rate }
     requires short { bits < 2 ^ 34 }
@@ -38,7 +39,7 @@ pub(crate) fn time_down(rate: u32, bits: u64) -> u64
     bits * SECOND / u64::from(rate)
 }
 
-/// The least number of whole microseconds that are as long as so many bit times.
+/// Returns these bit times in whole microseconds, rounded up.
 pub(crate) fn time_up(rate: u32, bits: u64) -> u64
     requires some { 0 < rate }
     requires short { bits < 2 ^ 34 }

@@ -1,23 +1,23 @@
-//! What is answered of a network.
+//! The analysis of a network.
 ghost use Rattle.std.specs.Prelude.{◌≡◌, ◌≤◌, length};
 
 use crate::plan::Planned;
 use can_plan::Borne;
 
-/// What the analysis answers of a message. All times are whole bit times.
+/// The analysis of a message. All times are whole bit times.
 #[derive(Clone, Copy, Debug)]
 pub struct Verdict {
     pub planned: Planned,
-    /// How long a frame of a message behind it in arbitration that has started goes on at most.
+    /// How long a lower-priority frame that has started can block a frame of this message at most.
     pub blocking: u16,
-    /// How long behind its release a frame's wire ends at most, if the analysis finds a bound.
+    /// The upper bound on the time from a frame's release to the end of its wire, if the analysis finds one.
     pub bound: Option<u64>,
 }
 
 impl Verdict {
     ghost use Rattle.can_plan_text.specs.Answers.{is_late as is_late_verdict};
 
-    /// Whether a frame may end behind its deadline: no bound was found, or one above it.
+    /// Returns whether a frame may miss its deadline: no bound was found, or one above the deadline.
     pub fn is_late(&self) -> bool
         ensures { result ≡ is_late_verdict self.now }
     {
@@ -28,12 +28,13 @@ impl Verdict {
     }
 }
 
-/// What is answered of a network.
+/// The analysis of a network.
 #[derive(Debug, Drop)]
 pub struct Analysis {
-    /// Of each message, in the order of arbitration.
+    /// A verdict for each message, highest priority first.
     pub verdicts: Vec<Verdict>,
-    /// For how long hits at the rate of the document leave every port error active, if it has one.
+    /// For how long the document's error model allows at most fifteen hits, if it has one. So many are tolerated
+    /// wherever they fall ([`can_plan::borne_for`]).
     pub borne: Option<Borne>,
     ghost few: { length verdicts.items ≤ 512 },
 }
@@ -41,7 +42,7 @@ pub struct Analysis {
 impl Analysis {
     ghost use Rattle.can_plan_text.specs.Answers.{late_in};
 
-    /// How many messages may be late.
+    /// Returns how many messages may miss their deadline.
     pub fn late(&self) -> usize
         ensures { result ≡ late_in self.now.verdicts.items }
     {

@@ -6,11 +6,11 @@ ghost use Rattle.can_plan_text.specs.Words.{asked_of_canplan, asked_of_message, 
 /// What is asked for.
 #[derive(Clone, Copy, Debug, PartialEq, Eq)]
 pub enum Asked {
-    /// The answer to a network's document.
+    /// The bounds for a network's document.
     Answer,
-    /// The answer with what makes each bound.
+    /// The bounds with their parts.
     Details,
-    /// The scenario of the worst case of a message, whose name stands behind the word.
+    /// The scenario of the worst case of a message, whose name follows the word.
     Timeline,
     /// The help text.
     Help,
@@ -18,8 +18,9 @@ pub enum Asked {
     Version,
 }
 
-/// What the words ask for, the first of which is the program's name: the answer where there is no other, the answer with
-/// details, the scenario of a message's worst case, the help text or the version. Other words are no use of the program.
+/// Returns what the words ask for, or `None` if they are not a valid use of the program. The first word is the
+/// program's name. No other word asks for the bounds. Others ask for bounds with details, the scenario of a message's
+/// worst case, the help text or the version.
 pub fn read_words(words: &[String]) -> Option<Asked>
     ensures { result ≡ asked_of_canplan (texts_of words.now) }
 {
@@ -31,7 +32,7 @@ pub fn read_words(words: &[String]) -> Option<Asked>
     }
 }
 
-/// What one word asks for.
+/// Returns what one word asks for.
 fn read_word(word: &str) -> Option<Asked>
     ensures { result ≡ canplan_word word.now }
 {
@@ -43,7 +44,7 @@ fn read_word(word: &str) -> Option<Asked>
     }
 }
 
-/// What one word asks for with the name of a message behind it.
+/// Returns what a word asks for that is followed by the name of a message.
 fn read_word_of_message(word: &str) -> Option<Asked>
     ensures { result ≡ asked_of_message word.now }
 {
@@ -53,7 +54,7 @@ fn read_word_of_message(word: &str) -> Option<Asked>
     }
 }
 
-/// The message that the words name.
+/// Returns the message that the words name.
 pub(crate) fn message_of(words: &[String]) -> &str
     ensures { result.now ≡ message_in (texts_of words.now) }
 {

@@ -13,15 +13,18 @@ use can_longest::LongestWires;
 use can_plan::arrivals;
 use std::alloc::{AllocError, Global};
 
-/// When the frames of a message and of those before it are offered together. What blocks them is offered a bit time
-/// before, as the run begins.
+/// When the frames of a message and of the higher-priority ones are offered together. The frame that blocks them is
+/// offered one bit time earlier, when the run begins.
 const START: u64 = 1;
 
-/// The worst case of the message at this place, where the messages stand in the order of arbitration: the message and
-/// those before it are offered together, and then as often as their periods and jitter allow, as long as the bus is busy
-/// with them, and one with the longest frames of those behind it a bit time before.
+/// Returns the worst case of the message at this place. The messages are in the order of priority.
 ///
-/// `TooLong` says that the bus is busy for longer than 999,999 bit times, or for ever, and `Memory` that memory ran out.
+/// The message and the higher-priority ones are offered together. While the bus is busy with them, they are offered as
+/// often as their periods and jitter allow. One of the longest frames of the lower-priority messages is offered one bit
+/// time before all of these.
+///
+/// - `TooLong`: the bus is busy for longer than 999,999 bit times, or for ever.
+/// - `Memory`: memory ran out.
 pub fn worst_case(
     alloc: Global,
     wires: &LongestWires,
@@ -42,7 +45,7 @@ pub fn worst_case(
     Ok(WorstCase { long, sequences })
 }
 
-/// How much is left of the longest frame of this message a bit time behind its start; 0 of none.
+/// Returns how much is left of the longest frame of this message one bit time after its start, or 0 without a message.
 fn blocking(blocker: &Option<Planned>) -> u16
     ensures { result ≡ blocking_of blocker.now }
 {
@@ -52,7 +55,7 @@ fn blocking(blocker: &Option<Planned>) -> u16
     }
 }
 
-/// The frames of a level, and of the message that blocks it, where the bus is busy with them for so many bit times.
+/// Returns the frames of a priority level, and of the message that blocks it, for a busy period of `long` bit times.
 fn all_sequences(
     alloc: Global,
     wires: &LongestWires,
@@ -68,7 +71,7 @@ fn all_sequences(
     Ok(sequences)
 }
 
-/// The frames of a level.
+/// Returns the frames of a priority level.
 fn level_sequences(
     alloc: Global,
     wires: &LongestWires,
@@ -85,7 +88,7 @@ fn level_sequences(
     Ok(sequences)
 }
 
-/// Appends the frame that blocks a level, if there is one.
+/// Appends the frame that blocks a priority level, if there is one.
 fn push_blocker(
     alloc: Global,
     wires: &LongestWires,
@@ -101,7 +104,7 @@ fn push_blocker(
     Ok(())
 }
 
-/// A message's frames, offered as often as they may be.
+/// Returns a message's frame, offered as often as allowed.
 fn often(
     alloc: Global,
     wires: &LongestWires,
@@ -116,7 +119,7 @@ fn often(
     Ok(Sequence { frame, times })
 }
 
-/// A message's frame, offered once, as the run begins.
+/// Returns a message's frame, offered once, when the run begins.
 fn once(alloc: Global, wires: &LongestWires, planned: &Planned) -> Result<Sequence, AllocError>
     ensures { IfOk result (IsOnce planned.now) }
 {
@@ -126,7 +129,7 @@ fn once(alloc: Global, wires: &LongestWires, planned: &Planned) -> Result<Sequen
     Ok(Sequence { frame, times })
 }
 
-/// When those of a message's frames are offered that arrive within so many bit times.
+/// Returns when those of a message's frames are offered that arrive within `long` bit times.
 fn offer_times(alloc: Global, planned: &Planned, long: u64) -> Result<Vec<u64>, AllocError>
     requires { long ≤ most_long }
     ensures { IfOk result (λ times. times.items ≡ offer_times_of long planned.now.message) }
@@ -138,7 +141,8 @@ fn offer_times(alloc: Global, planned: &Planned, long: u64) -> Result<Vec<u64>, 
     Ok(times)
 }
 
-/// When the frame of this number is offered: so many periods behind the first, less the jitter that the first had.
+/// Returns when the frame with this number is offered: this many periods after the first, less the jitter of the first,
+/// but not before the first.
 fn offer_time(planned: &Planned, number: u64) -> u64
     requires { number * planned.now.message.period ≤ 2 ^ 34 }
     ensures { result ≡ offer_time_of planned.now.message number }

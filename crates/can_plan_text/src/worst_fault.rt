@@ -10,11 +10,11 @@ use std::alloc::{AllocError, AllocFailed};
 /// Why there is no scenario of a worst case.
 #[derive(Clone, Copy, Debug, PartialEq, Eq)]
 pub enum WorstFault {
-    /// The document is refused for this field.
+    /// The document is refused because of this field.
     Field(PlanField),
     /// No message of the network has this name.
     Unknown,
-    /// The bus is busy for longer than a scenario may have bit times.
+    /// The bus is busy for longer than the longest scenario.
     TooLong,
     /// Memory ran out.
     Memory,

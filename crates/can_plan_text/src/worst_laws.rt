@@ -1,4 +1,4 @@
-//! The law that bounds speak of the frames of worst cases, a function that does nothing and ensures it.
+//! The law that bounds apply to the frames of worst cases, as a function with an empty body.
 ghost use Rattle.std.specs.Prelude.{ℕ, ◌≤◌, List};
 ghost use Rattle.can_plan.specs.Messages.{IsIn, IsMessageSet};
 ghost use Rattle.can_plan_text.specs.Plans.{IsPlanText, messages_of};
@@ -8,9 +8,12 @@ ghost use Rattle.can_plan_text.specs.declared.case.WorstCase.{WorstCase as Case}
 ghost use Rattle.can_plan_text.specs.Keeping.{AreSized, KeepToMessages, offers_of};
 ghost use Rattle.can_plan_text.specs.Worst.{IsWorstCase};
 
-/// The frames of a worst case are those of releases that keep to the messages, where the run begins so late that the
-/// first of each message may have been released before. So a bound says of each how late it is at most. The messages of
-/// each document say how long their frames are.
+/// The frames of a worst case come from releases that keep to the messages. So the bound of each message applies to
+/// them.
+///
+/// - `sized`: each message of a document has the right longest time on the bus.
+/// - `keep`: all offers are delayed by `delay` bit times, which no jitter exceeds, because the first frame of each
+///   message may have been released before the run.
 pub fn worst_cases_keep_to_messages()
     ensures sized { (document : List ℕ) (plan : Network) → IsPlanText document plan → AreSized plan.messages.items }
     ensures keep { (messages : List Message) (place : ℕ) (worst : Case) (delay : ℕ) → IsMessageSet (messages_of messages) → AreSized messages →

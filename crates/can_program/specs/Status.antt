@@ -1,4 +1,4 @@
--- What the exit status of a run says. (docs/CODES.md)
+-- The exit statuses of programs. (docs/CODES.md)
 use Rattle.std.specs.Prelude.{ℕ, ◌≡◌, ◌≢◌, ◌⊎◌, Bool, IsTrue, Result, Ok, Err}
 use Rattle.can_stream.specs.declared.fault.TraceFault.{TraceFault}
 use Rattle.can_stream.specs.declared.fault.TraceFault.TheVariants.{BadByte, ScenarioField, Read, Write, Memory as OutOfMemory, Long, FrameLine}
@@ -20,12 +20,12 @@ abbrev pub words_status : WordsFault → ℕ
 words_status Usage = 2
 words_status Memory = 4
 
--- 0 where all was done, and else that of the fault
+-- 0 if all was done, otherwise the status of the fault
 abbrev pub exit_status : {F : Type 0} → (F → ℕ) → Result (Unit {0}) F → ℕ
 exit_status status_of (Ok done) = 0
 exit_status status_of (Err fault) = status_of fault
 
--- the status tells a stream's failure, and tells nothing else so; and it blames no words
+-- the status is 3 exactly if a stream has failed, and it is not 2, which is for words
 pub record TellsStreams (reader_failed writer_failed : Bool) (status : ℕ) : Type 0 where
   pub stream_failed : status ≡ 3 → IsTrue reader_failed ⊎ IsTrue writer_failed
   pub write_told : IsTrue writer_failed → status ≡ 3

@@ -1,4 +1,4 @@
--- What words of a command line ask for in more than one program. (docs/CODES.md)
+-- Words of a command line with one meaning in several programs. (docs/CODES.md)
 use Rattle.std.specs.Prelude.{ℕ, Bool, ◌||◌, List, codes, map, string_bytes}
 use Rattle.std.specs.Str.{bytes_eq}
 use Rattle.std.specs.declared.alloc.Global.{Global}
@@ -12,7 +12,7 @@ texts_of words = map string_bytes words
 abbrev pub is_help_option : List ℕ → Bool
 is_help_option word = bytes_eq word (codes "--help") || bytes_eq word (codes "-h")
 
--- the words that do
+-- the words that ask for help
 abbrev pub is_help_word : List ℕ → Bool
 is_help_word word = bytes_eq word (codes "help") || is_help_option word
 

@@ -1,4 +1,4 @@
-//! How a run ends: its text of help, its fault's line and its exit status.
+//! How a run ends: its help text, the line of its fault, and its exit status.
 ghost use Rattle.std.specs.Prelude.{◌≡◌, ◌<◌, false, is_err, IfErr, OnOk};
 ghost use Rattle.std.specs.Io.KnownBytes.{Appends};
 ghost use Rattle.can_program.specs.Status.{exit_status, stream_status};
@@ -8,11 +8,11 @@ use arrayvec::ArrayString;
 use can_stream::{Sink, TraceFault, write_all};
 use std::fmt::Write;
 
-/// The room for a fault's line, in bytes: a name of 11, a text of 66, what it is of with 80, and seven between them and
-/// at the end.
+/// The capacity for the line of a fault, in bytes: 11 for the name, 66 for the text, 80 for what the fault is of, and 7
+/// between them and at the end.
 const LINE_ROOM: usize = 164;
 
-/// Writes the text of help.
+/// Writes the help text.
 pub fn write_help<W: Sink>(text: &str, w: &mut W) -> Result<(), TraceFault>
     requires { W.has_failed w.old ≡ false }
     ensures ok { OnOk result (Appends (W.contents w.old) (W.contents w.new) text.now) }
@@ -22,7 +22,7 @@ pub fn write_help<W: Sink>(text: &str, w: &mut W) -> Result<(), TraceFault>
     write_all(w, text.as_bytes())
 }
 
-/// The exit status of this outcome of the program of this name, whose fault is told.
+/// Returns the exit status of this outcome of the program with this name, and writes the line of a fault to `e`.
 pub fn conclude<F: RunFault, E: Sink>(name: &str, outcome: Result<(), F>, e: &mut E) -> u8
     ensures status { result ≡ exit_status F.status_of outcome }
     ensures silent { result ≡ 0 → e.new ≡ e.old }
@@ -30,7 +30,7 @@ pub fn conclude<F: RunFault, E: Sink>(name: &str, outcome: Result<(), F>, e: &mu
     conclude_of(name, outcome, "", e)
 }
 
-/// The same, where a fault is told with what it is of, if that is not empty.
+/// Does what [`conclude`] does. The line of a fault also has what the fault is of, if that is not empty.
 pub fn conclude_of<F: RunFault, E: Sink>(
     name: &str,
     outcome: Result<(), F>,
@@ -46,8 +46,8 @@ pub fn conclude_of<F: RunFault, E: Sink>(
     }
 }
 
-/// Tells a fault of the program of this name in a line on `e`, and answers its exit status. A line that `e` does not
-/// take, or that has more than 164 bytes, is left out, and the status is the same.
+/// Writes a fault of the program with this name as a line to `e`, and returns its exit status. A line that `e` does not
+/// take, or that has more than 164 bytes, is left out; the status is the same.
 pub fn refuse<F: RunFault, E: Sink>(name: &str, fault: F, e: &mut E) -> u8
     ensures status { result ≡ F.status_of fault }
     ensures told { 0 < result }
@@ -55,7 +55,7 @@ pub fn refuse<F: RunFault, E: Sink>(name: &str, fault: F, e: &mut E) -> u8
     refuse_of(name, fault, "", e)
 }
 
-/// The same, with what the fault is of, if that is not empty.
+/// Does this, and writes what the fault is of, if that is not empty.
 fn refuse_of<F: RunFault, E: Sink>(name: &str, fault: F, of: &str, e: &mut E) -> u8
     ensures status { result ≡ F.status_of fault }
     ensures told { 0 < result }

@@ -1,4 +1,4 @@
-//! Why a run did not do all that it was asked.
+//! Why a run has not done all that was asked.
 ghost use Rattle.std.specs.Prelude.{◌≡◌, ◌⊎◌, ◌↔◌, ◌<◌, ℕ};
 ghost use Rattle.can_program.specs.Status.{stream_status, words_status};
 
@@ -8,19 +8,19 @@ use std::io;
 use std::io::ErrorKind;
 use thiserror::Error;
 
-/// Why a run did not do all that it was asked. Its text, of at most 66 bytes, is told on standard error, and its status
+/// Why a run has not done all that was asked. Its text, at most 66 bytes, is written to standard error, and its status
 /// is the exit status. Each program has faults of its own, such as the fields of the documents that it reads.
 pub trait RunFault: Display + Copy {
     /// The exit status of each fault.
     ghost status_of: { Self → ℕ };
 
-    /// The exit status, which is not 0.
+    /// Returns the exit status, which is not 0.
     fn status(&self) -> u8
         ensures status { result ≡ status_of self.now }
         ensures told { 0 < result };
 }
 
-/// The input was not read or is refused, the answer was not written, or memory ran out.
+/// The input was not read or is refused, the output was not written, or memory ran out.
 impl RunFault for TraceFault {
     ghost status_of = { stream_status };
 
@@ -36,13 +36,13 @@ impl RunFault for TraceFault {
     }
 }
 
-/// Why nothing can be done by the words of a command line.
+/// Why the words of a command line cannot be used.
 #[derive(Clone, Copy, Debug, PartialEq, Eq, Error)]
 pub enum WordsFault {
-    /// The words are no use of the program.
+    /// The words are not a valid use of the program.
     #[error("usage")]
     Usage,
-    /// Memory ran out in reading the words.
+    /// Memory ran out when the words were read.
     #[error("P5 memory")]
     Memory,
 }
@@ -61,8 +61,8 @@ impl RunFault for WordsFault {
 impl WordsFault {
     ghost use Rattle.std.specs.IoError.{error_kind};
 
-    /// Why there is no command line: memory ran out in reading it, or it has a word that is not UTF-8 and so
-    /// is no use of the program.
+    /// Returns why there is no command line: memory ran out when it was read, or a word is not UTF-8 and so not a valid
+    /// use of the program.
     pub fn of(error: &io::Error) -> WordsFault
         ensures memory { (result ≡ WordsFault.Memory) ↔ (error_kind error.now ≡ ErrorKind.OutOfMemory) }
         ensures other { (result ≡ WordsFault.Memory) ⊎ (result ≡ WordsFault.Usage) }

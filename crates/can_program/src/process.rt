@@ -10,8 +10,8 @@ use std::io;
 use std::io::{ErrorKind, Stderr, Stdin, Stdout};
 use std::process::ExitCode;
 
-/// Runs the program of this name, as `execute` does, on the words and the standard streams of its process. The
-/// words begin with the name by which it was called.
+/// Runs `execute`, the program with this name, on the words and the standard streams of its process. The words begin
+/// with the name by which it was called.
 pub fn run_program<F>(rt: HostRuntime, name: &str, execute: F) -> ExitCode
 where
     F: FnOnce(Vec<String>, &mut FromRead<Stdin>, &mut ToWrite<Stdout>, &mut ToWrite<Stderr>) -> u8,
@@ -29,8 +29,8 @@ where
     ExitCode::from(status)
 }
 
-/// The words that were read for the program of this name, or where they could not be, the exit status of that fault,
-/// which is told on `e`.
+/// Returns the words that were read for the program with this name. If they could not be read, it returns the exit
+/// status of that fault, and writes its line to `e`.
 pub fn words_or_status<E: Sink>(
     name: &str,
     words: io::Result<Vec<String>>,
@@ -46,7 +46,7 @@ pub fn words_or_status<E: Sink>(
     }
 }
 
-/// The words of the command line.
+/// Returns the words of the command line.
 fn command_line(rt: &HostRuntime) -> io::Result<Vec<String>> {
     Ok(std::env::args(rt)?.collect(rt.alloc())?)
 }

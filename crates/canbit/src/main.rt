@@ -1,8 +1,8 @@
-//! The command `canbit`: it codes, decodes and checks frames of a classical CAN bus, and runs scenarios,
-//! from standard input to standard output.
+//! The command `canbit`: encodes, decodes and checks frames of a classical CAN bus, and runs scenarios, from standard
+//! input to standard output.
 //!
-//! What a run does, its fault line and its exit status are those of `execute` of the crate `canbit_commands`. That
-//! `main` joins it to the process's words and standard streams is only tested.
+//! What a run does, the line of its fault and its exit status are those of `execute` in the crate `canbit_commands`.
+//! That `main` connects it to the process's words and standard streams is only tested.
 #![tactic(auto)]
 
 use can_program::run_program;

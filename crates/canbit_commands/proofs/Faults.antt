@@ -79,7 +79,7 @@ of-memory Memory is = refl
 of-memory Long is = absurd (apart is refl)
 of-memory (FrameLine number fault) is = absurd (apart is refl)
 
--- a status that there is, and that does not blame the words
+-- a status that exists, and that is not the one for words
 abbrev IsProper : ℕ → Type 0
 IsProper status = (status < 5) × (status ≢ 2)
 
@@ -104,21 +104,21 @@ limits Memory = proper-4
 limits Long = proper-1
 limits (FrameLine number fault) = proper-1
 
--- why a call ended whose reader failed
+-- why a call ended if the reader failed
 abbrev pub Cause : TraceFault → Type 0
 Cause fault = (fault ≡ Read) ⊎ ((fault ≡ Write) ⊎ ((place : ℕ) × (fault ≡ BadByte place)))
 
--- where that of the reader is told if the writer has not failed too
+-- the reader's failure is the cause unless the writer has failed too
 pub told-cause : (has_failed is_cut : Bool) (fault : TraceFault) → ((IsTrue has_failed × (is_cut ≡ false)) → fault ≡ Read) → (IsTrue is_cut → fault ≡ Write) → IsTrue has_failed → Cause fault
 told-cause has_failed true fault read write failed = inr (inl (write refl))
 told-cause has_failed false fault read write failed = inl (read (failed, refl))
 
--- of a reader that has failed, in a call that was not ended by it
+-- a reader that failed, in a call that did not end because of it
 pub not-both : (has_failed is_cut : Bool) → IsTrue has_failed → ((IsTrue has_failed × (is_cut ≡ false)) → ⊥) → (IsTrue is_cut → ⊥) → ⊥
 not-both has_failed true failed whole uncut = uncut refl
 not-both has_failed false failed whole uncut = whole (failed, refl)
 
--- the same, as `check_lines` tells it
+-- the cause as a contract of `check_lines` has it
 abbrev ToldCause : {T : Type 0} → Result T TraceFault → Type 0
 ToldCause r = IsErrOf r Read ⊎ (IsErrOf r Write ⊎ ((place : ℕ) × IsErrOf r (BadByte place)))
 
@@ -133,7 +133,7 @@ uncaused (inr (inl e)) = not-ok e
 uncaused (inr (inr at)) = not-ok at.1
 
 module _ {R W : Type 0} (remaining : R → Option (List ℕ)) (before after : R) (contents : W → Option (List ℕ)) (held holds : W) where
-  -- what was read and written is so related
+  -- what was read and written is related in this way
   abbrev Says : (List ℕ → List ℕ → Type 0) → Type 0
   Says Related = Told remaining before after contents held holds Related
 
@@ -161,11 +161,11 @@ module _ {R W : Type 0} (remaining : R → Option (List ℕ)) (before after : R)
   refused chosen reader_ended Long is byte long line field = weaker _ _ (λ input output h. inr (inr (inl h))) (long refl)
   refused chosen reader_ended (FrameLine number fault) is byte long line field = weaker _ _ (λ input output h. inr (inl (number, h))) (line number fault refl)
 
-  -- as many pass as there are
+  -- all pass
   pub passes_all : (passed count : ℕ) → passed ≡ count → Says (ChecksAll passed count) → Says PassesAll
   passes_all passed count same told = weaker _ PassesAll (λ input output checks. (count, rw same at checks)) told
 
-  -- not as many pass as there are
+  -- not all pass
   pub passes_not_all : (passed count : ℕ) (reader_ended : Bool) → passed ≢ count → IsTrue reader_ended → Says (ChecksAll passed count) → Says (RefusesInput Check reader_ended)
   passes_not_all passed count reader_ended differ ended told =
       weaker _ (RefusesInput Check reader_ended) (λ input output checks. inr (inr (inr (inl (ended, (passed, (count, differ, checks))))))) told

@@ -21,7 +21,7 @@ took-nothing None = tt
 took-nothing (Some bytes) = sym (append-nil bytes)
 
 module _ {R W : Type 0} (remaining : R → Option (List ℕ)) (before after : R) (contents : W → Option (List ℕ)) (held holds : W) where
-  -- a writer that is as it was holds nothing more
+  -- an unchanged writer has no more than before
   silent : (Related : List ℕ → List ℕ → Type 0) (read : List ℕ) → Consumes (remaining before) (remaining after) read → holds ≡ held → Related read []
       → Told remaining before after contents held holds Related
   silent Related read consumes same related = record {
@@ -73,7 +73,7 @@ module _ {R W : Type 0} (remaining : R → Option (List ℕ)) (before after : R)
     }
 
     module _ {T : Type 0} (whole : T) (failed : IsErrOf {T = T} (Ok whole) Read ↔ IsTrue has_failed) (read text : List ℕ) (consumes : Consumes (remaining before) (remaining after) read) (same : text ≡ read) (ended : IsTrue has_ended) where
-      -- what was read says no scenario, or there was no memory for it
+      -- what was read is not a scenario, or memory ran out
       pub unsaid : {S : Type 0} (fault : TraceFault) → IsFieldOrMemory fault → ((wrong : Field) → IsErrOf {T = S} (Err fault) (ScenarioField wrong) → IsWrongScenarioField wrong text)
           → is_cut ≡ false → holds ≡ held → Outcome (Err fault)
       unsaid fault (inl is) first uncut kept = record {

@@ -1,4 +1,4 @@
--- What each subcommand has written of what it read, for each way in which it can end. (docs/FORMATS.md)
+-- What each subcommand has written for what it read, for each way in which it can end. (docs/FORMATS.md)
 use Rattle.std.specs.Prelude.{◌≡◌, ◌≢◌, ◌⊎◌, ℕ, Bool, IsTrue, List}
 use Rattle.can_texts.specs.Checked.{BeginsChecking, ChecksAll, ChecksEnded, ChecksTooLong, IsFirstBadByte, IsFirstBadVectorLine}
 use Rattle.can_texts.specs.Coded.{BeginsEncoding, EncodesAll, EncodesEnded, EncodesTooLong, IsFirstBadLine}
@@ -11,11 +11,11 @@ use Rattle.can_stream.specs.declared.field.Field.{Field}
 use Rattle.canbit_words.specs.declared.subcommands.Chosen.{Chosen}
 use Rattle.canbit_words.specs.declared.subcommands.Chosen.TheVariants.{Encode, Decode, Run, Check}
 
--- the output is the answer to vectors that all pass
+-- the output is that for vectors that all pass
 abbrev pub PassesAll : List ℕ → List ℕ → Type 0
 PassesAll input output = (count : ℕ) × ChecksAll count count input output
 
--- the output is the answer to vectors that do not all pass
+-- the output is that for vectors that do not all pass
 abbrev pub PassesNotAll : List ℕ → List ℕ → Type 0
 PassesNotAll input output = (passed : ℕ) × ((count : ℕ) × (passed ≢ count) × ChecksAll passed count input output)
 
@@ -23,11 +23,11 @@ PassesNotAll input output = (passed : ℕ) × ((count : ℕ) × (passed ≢ coun
 abbrev pub Reports : List ℕ → List ℕ → Type 0
 Reports input output = (scenario : Scenario) × IsScenarioText input scenario × (output ≡ report scenario)
 
--- the input says no scenario, for which this field is told, and nothing is written
+-- the input is not the text of a scenario, this is its first wrong field, and nothing is written
 abbrev pub RefusesScenario : Field → List ℕ → List ℕ → Type 0
 RefusesScenario wrong input output = IsWrongScenarioField wrong input × WritesNothing input output
 
--- all is done
+-- all was done
 abbrev pub AnswersAll : Chosen → List ℕ → List ℕ → Type 0
 AnswersAll Encode = EncodesAll
 AnswersAll Decode = DecodesAll
@@ -62,7 +62,7 @@ HasBadByte Decode place input output = DecodesToBadByte place input output
 HasBadByte Run place input output = ⊥
 HasBadByte Check place input output = IsFirstBadByte place input output
 
--- the line of this number is bad
+-- the line with this number is bad
 abbrev pub HasBadLine : Chosen → ℕ → Bool → List ℕ → List ℕ → Type 0
 HasBadLine Encode number reader_ended input output = (fault : _) × IsFirstBadLine number fault reader_ended input output
 HasBadLine Decode number reader_ended input output = ⊥

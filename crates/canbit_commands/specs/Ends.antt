@@ -1,4 +1,4 @@
--- What the functions behind `execute` promise, each in one: so that each way in which they return has one goal, and not a dozen.
+-- The promises of the functions below `execute`, each in one record: each way in which such a function returns is then one goal.
 use Rattle.std.specs.Prelude.{◌≡◌, ◌≢◌, ◌⊎◌, ◌↔◌, ◌<◌, ℕ, Bool, IsErrOf, IsFalse, IsTrue, List, OnOk, Option, Result}
 use Rattle.std.specs.Io.KnownBytes.{IsAtEnd}
 use Rattle.can_stream.specs.Told.{Told}
@@ -10,10 +10,10 @@ use Rattle.canbit_words.specs.declared.subcommands.Chosen.TheVariants.{Run}
 use Rattle.canbit_commands.specs.Answers.{AnswersAll, AnswersEnded, BeginsAnswering, HasBadByte, RefusesInput, RefusesScenario, Reports}
 use Rattle.can_program.specs.Written.{WritesBeginning, WritesNothing}
 
--- The reader and the writer before and behind a call, whether the reader has ended or failed by then, and whether the
--- writer has failed, so that what it took is cut.
+-- The reader and the writer before and after a call; whether the reader has ended or failed by then; and whether the writer has
+-- failed, so that what it took is incomplete.
 module _ {R W : Type 0} (remaining : R → Option (List ℕ)) (before after : R) (contents : W → Option (List ℕ)) (held holds : W) (has_ended has_failed is_cut : Bool) where
-  -- a scenario that was read and run, with this result
+  -- a scenario was read and run, with this result
   pub record RunEnds (result : Result (Unit {0}) TraceFault) : Type 0 where
     pub ok : OnOk result (Told remaining before after contents held holds Reports)
     pub field : (wrong : Field) → IsErrOf result (ScenarioField wrong) → Told remaining before after contents held holds (RefusesScenario wrong)
@@ -30,7 +30,7 @@ module _ {R W : Type 0} (remaining : R → Option (List ℕ)) (before after : R)
     pub read_failed : IsErrOf result Read ↔ IsTrue has_failed
     pub write_failed : IsErrOf result Write ↔ IsTrue is_cut
 
-  -- what a subcommand asks is done, and the exit status is to be this
+  -- what a subcommand is for was done, and the exit status is this one
   pub record Ends (chosen : Chosen) (status : ℕ) : Type 0 where
     pub all_done : status ≡ 0 → Told remaining before after contents held holds (AnswersAll chosen)
     pub all_read : status ≡ 0 → IsTrue has_ended × IsAtEnd (remaining after)

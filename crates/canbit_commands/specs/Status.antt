@@ -1,4 +1,4 @@
--- What the exit status of `canbit` says. (docs/CODES.md)
+-- The exit status of `canbit`. (docs/CODES.md)
 use Rattle.std.specs.Prelude.{ℕ}
 use Rattle.can_program.specs.Status.{stream_status}
 use Rattle.canbit_commands.specs.declared.fault.CanbitFault.{CanbitFault}

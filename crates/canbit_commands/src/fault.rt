@@ -1,4 +1,4 @@
-//! Why `canbit` did not do all that it was asked.
+//! Why `canbit` has not done all that was asked.
 ghost use Rattle.std.specs.Prelude.{◌≡◌};
 ghost use Rattle.canbit_commands.specs.Status.{canbit_status};
 ghost use Rattle.canbit_commands.specs.declared.fault.CanbitFault.TheVariants.{Stream};
@@ -7,13 +7,13 @@ use can_program::RunFault;
 use can_stream::TraceFault;
 use thiserror::Error;
 
-/// Why a subcommand did not do all that it was asked.
+/// Why a subcommand has not done all that was asked.
 #[derive(Clone, Copy, Debug, PartialEq, Eq, Error)]
 pub enum CanbitFault {
-    /// Not all vectors have the levels of their frames.
+    /// At least one vector does not have the levels of its frame.
     #[error("vectors differ")]
     VectorsDiffer,
-    /// The input was not read or is refused, the answer was not written, or memory ran out.
+    /// The input was not read or is refused, the output was not written, or memory ran out.
     #[error(transparent)]
     Stream(TraceFault),
 }

@@ -1,13 +1,13 @@
-//! What `canbit` does, over any reader and writers: a subcommand's input, its answer, the line of its fault and the
+//! What `canbit` does, over any reader and writers: a subcommand's input and output, the line of its fault, and the
 //! exit status.
 //!
 //! | File | What it has | Defined in |
 //! |---|---|---|
-//! | `program.rt` | [`execute`], what the words ask for is done: for each status what was read and written; [`NAME`] | `specs/Answers.antt` |
-//! | `fault.rt` | [`CanbitFault`], why a subcommand did not do all that it was asked | `specs/Status.antt` |
-//! | `run.rt` | a scenario is read and run, and its report written | `specs/Answers.antt`, `specs/Ends.antt` |
+//! | `program.rt` | [`execute`], which does what the words ask for, and promises for each status what was read and written; [`NAME`] | `specs/Answers.antt` |
+//! | `fault.rt` | [`CanbitFault`], why a subcommand has not done all that was asked | `specs/Status.antt` |
+//! | `run.rt` | reads and runs a scenario, and writes its report | `specs/Answers.antt`, `specs/Ends.antt` |
 //!
-//! Which subcommand the words of the command line name is told by the crate `canbit_words`.
+//! The crate `canbit_words` finds which subcommand the words of the command line name.
 #![tactic(auto)]
 
 mod fault;

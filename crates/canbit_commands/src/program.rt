@@ -21,18 +21,18 @@ use std::alloc::Global;
 /// The program's name, before the line of a fault.
 pub const NAME: &str = "canbit";
 
-/// Does what the words ask, and answers the exit status. It reads the words first, of which the first
-/// is the program's name, and then `r`; the answer or the text of help goes to `w`, and the line of a
-/// fault to `e`.
+/// Does what the words ask for, and returns the exit status. The first word is the program's name. The
+/// call reads the words first, then `r`. It writes the output or the help text to `w`, and the line of
+/// a fault to `e`.
 ///
 /// | Status | Line | Why |
 /// |---|---|---|
 /// | 0 | none | all was done |
 /// | 1 | `canbit: P1 byte 3`, `canbit: P2 port[0].log`, `canbit: P6 long`, `canbit: P7 line 2 X4 at 9` | the input is refused |
-/// | 1 | `canbit: vectors differ` | all was checked, and not all vectors passed |
+/// | 1 | `canbit: vectors differ` | all vectors were checked, and not all passed |
 /// | 2 | `canbit: usage` | the words are refused |
 /// | 3 | `canbit: P3 read`, `canbit: P4 write` | `r` or `w` failed |
-/// | 4 | `canbit: P5 memory` | memory ran out, in reading the words or in `run` |
+/// | 4 | `canbit: P5 memory` | memory ran out, when the words were read or in `run` |
 pub fn execute<R: Source, W: Sink, E: Sink>(
     alloc: Global,
     words: &[String],
@@ -49,7 +49,7 @@ pub fn execute<R: Source, W: Sink, E: Sink>(
     ensures alone { (name : List ℕ) (chosen : Chosen)
         → texts_of words.now ≡ name ∷ name_of chosen ∷ [] → AsksFor chosen (texts_of words.now) }
 
-    // What the subcommand wrote of what it read.
+    // What the subcommand has written for what it read.
     ensures all_done { result ≡ 0 → (chosen : Chosen) → AsksFor chosen (texts_of words.now)
         → Told R.remaining r.old r.new W.contents w.old w.new (AnswersAll chosen) }
     ensures all_read { result ≡ 0 → AsksForOne (texts_of words.now)
@@ -62,14 +62,15 @@ pub fn execute<R: Source, W: Sink, E: Sink>(
     ensures writer_failed { IsTrue (W.has_failed w.new) → (chosen : Chosen) → AsksFor chosen (texts_of words.now)
         → Told R.remaining r.old r.new W.contents w.old w.new (BeginsAnswering chosen (R.has_ended r.new)) }
 
-    // A stream's failure is told, but for a reader's where a bad byte came before it.
+    // The status is 3 exactly if a stream failed, except that it may be 1 if a bad byte came before the
+    // reader failed.
     ensures stream_failed { result ≡ 3 → IsTrue (R.has_failed r.new) ⊎ IsTrue (W.has_failed w.new) }
     ensures write_told { IsTrue (W.has_failed w.new) → result ≡ 3 }
     ensures read_told { IsTrue (R.has_failed r.new) → (result ≡ 3)
         ⊎ ((result ≡ 1) × ((chosen : Chosen) × AsksFor chosen (texts_of words.now) × ((place : ℕ)
         × Told R.remaining r.old r.new W.contents w.old w.new (HasBadByte chosen place)))) }
 
-    // Help is written where the words ask for it.
+    // Help is written only if the words ask for it.
     ensures helped { result ≡ 0 → AsksForOne (texts_of words.now)
         ⊎ (AsksForHelp (texts_of words.now)
         × ((text : List ℕ) × Appends (W.contents w.old) (W.contents w.new) text)) }
@@ -90,7 +91,7 @@ pub fn execute<R: Source, W: Sink, E: Sink>(
     }
 }
 
-/// Does what the subcommand asks.
+/// Does what the subcommand is for.
 fn answer<R: Source, W: Sink>(
     alloc: Global,
     chosen: Chosen,

@@ -1,4 +1,4 @@
-//! Running the scenario that a reader tells.
+//! Running the scenario from a reader.
 ghost use Rattle.std.specs.Prelude.{◌≡◌, false};
 ghost use Rattle.canbit_commands.specs.Ends.{RunEnds};
 
@@ -6,8 +6,8 @@ use can_stream::{Sink, Source, TraceFault, read_whole};
 use can_trace::{Scenario, run_scenario};
 use std::alloc::Global;
 
-/// Reads a scenario up to the reader's end, runs it, and writes its report. Nothing is written where
-/// the reader failed, the scenario is refused, or memory ran out.
+/// Reads a scenario up to the reader's end, runs it, and writes its report. It writes nothing if the
+/// reader fails, the scenario is refused, or memory runs out.
 pub fn run<R: Source, W: Sink>(alloc: Global, r: &mut R, w: &mut W) -> Result<(), TraceFault>
     requires reader_unfailed { R.has_failed r.old ≡ false }
     requires reader_unended { R.has_ended r.old ≡ false }

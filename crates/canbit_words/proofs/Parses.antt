@@ -1,4 +1,4 @@
--- What an answer of `clap` to the program's words says.
+-- What the results of `clap` for the program's words mean.
 use Rattle.std.proofs.Common.{◌≡◌, ◌≢◌, ◌∙◌, ap, inl, inr, option_map, refl, subst, true, List, [], ◌∷◌, Option, Some, None, Result, Ok, Err, IfOk, OnOk, MatchResult}
 use Rattle.std.specs.Prelude.{Box}
 use Rattle.clap.specs.Words.{App, FailsBy, HasKind, HasMatchesOf, Kinds, Text, fault_of, is_simple, is_simple_and_free, kind_of, subcommand_name_of, subcommand_of}
@@ -23,7 +23,7 @@ simple = refl
 free : is_simple_and_free canbit ≡ true
 free = refl
 
--- what is told of a simple and free command holds of the program's
+-- what is true of a simple and free command is true of the program's
 told : (P : App → Type 0) (app : App) → app ≡ canbit → (is_simple_and_free app ≡ true → P app) → P canbit
 told P app is h = subst P is (h (ap is_simple_and_free is ∙ free))
 
@@ -32,7 +32,7 @@ module _ {Z : Type 0} where
   name_of_row None = refl
   name_of_row (Some b) = refl
 
--- the name of a subcommand alone behind the program's name has no fault, and names it
+-- a subcommand's name alone after the program's name has no fault, and names the subcommand
 alone_taken : (name : Text) (chosen : Chosen) → fault_of canbit (name ∷ name_of chosen ∷ []) ≡ []
 unfolding clap_on_literals
 alone_taken name Encode = refl
@@ -53,7 +53,7 @@ no_memory kinds e (inr among) none = absurd (rw none at among)
 
 -- a parse of the words by the program's command
 module _ (app : App) (words : List Text) (is : app ≡ canbit) where
-  -- it met the subcommand that the words name
+  -- the parse found the subcommand that the words name
   name_met : (m : ArgMatches) → HasMatchesOf app words m → subcommand_name_of m ≡ named_in words
   name_met m has =
       name_of_row (out-ArgMatches m).subcommand
@@ -64,7 +64,7 @@ module _ (app : App) (words : List Text) (is : app ≡ canbit) where
   taken (Ok m) fails = told (λ a. fault_of a words ≡ []) app is fails
   taken (Err e) fails = tt
 
-  -- it met one of the program's
+  -- the parse found a subcommand of the program
   pub known : (r : Result ArgMatches Error) → IfOk r (HasMatchesOf app words) → (is_simple_and_free app ≡ true → FailsBy (fault_of app words) r)
       → IfOk r (λ m. (chosen : Chosen) × (subcommand_name_of m ≡ Some (name_of chosen)))
   known (Ok m) has fails =
@@ -72,7 +72,7 @@ module _ (app : App) (words : List Text) (is : app ≡ canbit) where
       (named.0, name_met m has ∙ named.1)
   known (Err e) has fails = tt
 
-  -- the name of a subcommand alone is refused for want of memory only
+  -- a subcommand's name alone is refused only if memory runs out
   pub alone : (r : Result ArgMatches Error) → IfOk r (HasMatchesOf app words) → (is_simple_and_free app ≡ true → FailsBy (fault_of app words) r)
       → (name : Text) (chosen : Chosen) → words ≡ name ∷ name_of chosen ∷ []
       → MatchResult r (λ m. subcommand_name_of m ≡ Some (name_of chosen)) (λ e. kind_of e ≡ OutOfMemory)
@@ -80,11 +80,11 @@ module _ (app : App) (words : List Text) (is : app ≡ canbit) where
   alone (Err x) has fails name chosen e =
       no_memory _ x (told (λ a. HasKind (fault_of a words) x) app is fails) (ap (fault_of canbit) e ∙ alone_taken name chosen)
 
--- an error that is neither want of memory nor a request for help is a mistake
+-- an error that is neither for memory nor a request for help is misuse
 pub misuse : (words : List Text) (e : Error) → HasKind (faults_in words) e → (kind_of e ≢ OutOfMemory) × (kind_of e ≢ DisplayHelp) → IsMisuse words
 misuse words e (inl memory) other = absurd (other.0 memory)
 misuse words e (inr among) other = (kind_of e, among, other.1)
 
--- the name of a subcommand alone behind the program's name asks for it
+-- a subcommand's name alone after the program's name asks for the subcommand
 pub alone_asks : (words : List Text) (name : Text) (chosen : Chosen) → words ≡ name ∷ name_of chosen ∷ [] → AsksFor chosen words
 alone_asks words name chosen is = (ap (fault_of canbit) is ∙ alone_taken name chosen, ap named_in is ∙ alone_named name chosen)

@@ -5,18 +5,18 @@ use Rattle.clap.specs.Simple.{on_top, new_shape}
 use Rattle.canbit_words.specs.declared.subcommands.Chosen.{Chosen}
 use Rattle.canbit_words.specs.declared.subcommands.Chosen.TheVariants.{Encode, Decode, Run, Check}
 
--- every subcommand, in the order of the help text
+-- all subcommands, in the order of the help text
 abbrev pub subcommands : List Chosen
 subcommands = Encode ∷ Decode ∷ Run ∷ Check ∷ []
 
--- the word that names it
+-- the word that names a subcommand
 abbrev pub name_of : Chosen → Text
 name_of Encode = codes "encode"
 name_of Decode = codes "decode"
 name_of Run = codes "run"
 name_of Check = codes "check"
 
--- the command named canbit, which requires a subcommand
+-- the command with the name canbit, which requires a subcommand
 abbrev pub without_subcommands : App
 without_subcommands = on_top (λ s. record s { subcommand_required = true }) (new_app (codes "canbit"))
 
@@ -24,6 +24,6 @@ without_subcommands = on_top (λ s. record s { subcommand_required = true }) (ne
 abbrev pub with_chosen : App → Chosen → App
 with_chosen app chosen = with_subcommand app (new_shape (name_of chosen))
 
--- the command named canbit with its subcommands, one of which it requires
+-- the command with the name canbit and its subcommands, one of which it requires
 abbrev pub canbit : App
 canbit = fold with_chosen without_subcommands subcommands

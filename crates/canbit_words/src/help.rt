@@ -1,10 +1,10 @@
-//! What the help texts say behind the lines that `clap` writes itself. Each fault's code is explained
-//! where it can come; docs/CODES.md says what to do about it.
+//! The help texts, except the lines that `clap` writes itself. Each fault's code is explained where it
+//! can occur; docs/CODES.md says what to do about it.
 
 /// The line of usage of the program.
 pub const USAGE: &str = "canbit <COMMAND> [--help]";
 
-/// Of the program.
+/// The details of the program.
 pub const PROGRAM: &str = "\
 Each subcommand reads standard input and writes standard output, as
   echo 'S 000 D 0' | canbit encode
@@ -18,7 +18,7 @@ Exit status:
   3  standard input could not be read, or standard output not be written
   4  no memory";
 
-/// Of `encode`.
+/// The details of `encode`.
 pub const ENCODE: &str = "\
 Standard input: a frame a line, standard or extended, data or remote, with its DLC and data.
   S 123 D 2 aa55
@@ -37,7 +37,7 @@ Faults:
 
 Exit status: 0 all done; 1 P6, P7; 2 wrong use; 3 P3, P4; 4 P5";
 
-/// Of `decode`.
+/// The details of `decode`.
 pub const DECODE: &str = "\
 Standard input: a level for each bit time, 0 dominant and 1 recessive. Blanks and line ends are
 skipped.
@@ -60,7 +60,7 @@ Faults:
 
 Exit status: 0 all done, with or without faults on the bus; 1 P1, P6; 2 wrong use; 3 P3, P4; 4 P5";
 
-/// Of `run`.
+/// The details of `run`.
 pub const RUN: &str = "\
 Standard input: a scenario, in TOML.
   version = 1
@@ -87,7 +87,7 @@ Faults:
 
 Exit status: 0 all done; 1 P2; 2 wrong use; 3 P3, P4; 4 P5";
 
-/// Of `check`.
+/// The details of `check`.
 pub const CHECK: &str = "\
 Standard input: a vector a line, a frame and the levels that its sender should drive.
   S 001 D 0 = 00000100000101000001000100010000100111111111111

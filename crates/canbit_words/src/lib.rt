@@ -1,12 +1,13 @@
-//! The words of `canbit`'s command line: its subcommands, which of them the words name, and the texts of help.
+//! The words of `canbit`'s command line: its subcommands, which of them the words name, and the help
+//! texts.
 //!
 //! | File | What it has | Defined in |
 //! |---|---|---|
 //! | `subcommands.rt` | [`Chosen`], the table of subcommands | `specs/Subcommands.antt` |
 //! | `words.rt` | [`chosen`], which of them the words name, as `clap` reads them; [`WordFault`] | `specs/Words.antt` |
-//! | `help.rt` | what the texts of help say of input, answer, faults and statuses | |
+//! | `help.rt` | the help texts about input, output, faults and statuses | |
 //!
-//! The contract of `chosen` says it by `clap`'s definition of a simple command, without the parser.
+//! The contract of `chosen` uses `clap`'s definition of a simple command, without the parser.
 #![tactic(auto)]
 
 mod help;

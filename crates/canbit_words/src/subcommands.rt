@@ -7,21 +7,21 @@ use crate::help;
 /// A subcommand.
 #[derive(Clone, Copy, Debug, PartialEq, Eq)]
 pub enum Chosen {
-    /// Frame lines in, lines of levels out.
+    /// Reads frame lines, and writes a line of levels for each.
     Encode,
-    /// Trace text in, a line for each frame and each fault out.
+    /// Reads trace text, and writes a line for each frame and each fault.
     Decode,
-    /// A scenario in, its report out.
+    /// Reads a scenario, and writes its report.
     Run,
-    /// Vector lines in, a verdict for each out, and their total.
+    /// Reads vector lines, and writes a verdict for each, and their total.
     Check,
 }
 
 impl Chosen {
-    /// Every subcommand, in the order of the help text.
+    /// All subcommands, in the order of the help text.
     pub const ALL: [Chosen; 4] = [Chosen::Encode, Chosen::Decode, Chosen::Run, Chosen::Check];
 
-    /// The word that names it.
+    /// Returns the word that names it.
     pub fn name(self) -> &'static str
         ensures { result.now ≡ name_of self }
     {
@@ -33,7 +33,7 @@ impl Chosen {
         }
     }
 
-    /// Its line in the help text.
+    /// Returns its line in the help text.
     pub(crate) fn about(self) -> &'static str {
         match self {
             Chosen::Encode => "Writes the levels of each frame line",
@@ -43,7 +43,7 @@ impl Chosen {
         }
     }
 
-    /// What its help text says of input, answer, faults and statuses.
+    /// Returns its help text about input, output, faults and statuses.
     pub(crate) fn details(self) -> &'static str {
         match self {
             Chosen::Encode => help::ENCODE,
@@ -53,7 +53,7 @@ impl Chosen {
         }
     }
 
-    /// The subcommand of this name.
+    /// Returns the subcommand with this name.
     pub(crate) fn named(name: &str) -> Option<Chosen>
         ensures some { IfSome result (λ chosen. name_of chosen ≡ name.now) }
         ensures every { (chosen : Chosen) → name_of chosen ≡ name.now → result ≡ Some chosen }

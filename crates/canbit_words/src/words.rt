@@ -1,4 +1,4 @@
-//! The words of a command line: which subcommand they name.
+//! Which subcommand the words of a command line name.
 ghost use Rattle.std.specs.Prelude.{◌≡◌, ◌≢◌, ◌⊎◌, [], ◌∷◌, ℕ, List, MatchResult, IfErr, IfOk, OnOk, Some, false};
 ghost use Rattle.clap.specs.Words.{app_of, shape_of, kind_of, subcommand_name_of, HasKind};
 ghost use Rattle.clap.specs.Simple.{new_shape};
@@ -16,7 +16,7 @@ use std::alloc::{AllocError, Global};
 /// Why words name no subcommand.
 #[derive(Debug, Drop)]
 pub enum WordFault {
-    /// They are no use of the program.
+    /// They are not a valid use of the program.
     Usage,
     /// They ask for help, which is this text.
     Help(String),
@@ -34,7 +34,7 @@ impl From<AllocError> for WordFault {
     }
 }
 
-/// One subcommand, as `clap` reads it.
+/// Returns one subcommand, for `clap`.
 fn subcommand<'a>(alloc: Global, chosen: Chosen) -> Command<'a>
     ensures shape { shape_of result ≡ new_shape (name_of chosen) }
     ensures local { (fields_of result).has_globals ≡ false }
@@ -45,7 +45,7 @@ fn subcommand<'a>(alloc: Global, chosen: Chosen) -> Command<'a>
     Command::new(alloc, name).about(about).after_help(details)
 }
 
-/// The command, as `clap` reads it.
+/// Returns the command, for `clap`.
 fn command<'a>(alloc: Global) -> Result<Command<'a>, AllocError>
     ensures { IfOk result (λ command. app_of command ≡ canbit) }
 {
@@ -60,7 +60,7 @@ fn command<'a>(alloc: Global) -> Result<Command<'a>, AllocError>
     Ok(command)
 }
 
-/// What `clap` makes of the words.
+/// Returns what `clap` parses the words to.
 fn parsed<'a>(alloc: Global, words: &'a [String]) -> Result<ArgMatches<'a>, Error>
     ensures taken { OnOk result (faults_in (texts_of words.entry.now) ≡ []) }
     ensures named { IfOk result (λ m. subcommand_name_of m ≡ named_in (texts_of words.entry.now)) }
@@ -75,7 +75,7 @@ fn parsed<'a>(alloc: Global, words: &'a [String]) -> Result<ArgMatches<'a>, Erro
     command(alloc)?.try_get_matches_from(words)
 }
 
-/// The subcommand that a parse met.
+/// Returns the subcommand that a parse found.
 fn met(matches: &ArgMatches<'_>) -> Chosen
     requires { (chosen : Chosen) × (subcommand_name_of matches.now ≡ Some (name_of chosen)) }
     ensures name { subcommand_name_of matches.now ≡ Some (name_of result) }
@@ -85,7 +85,7 @@ fn met(matches: &ArgMatches<'_>) -> Chosen
     matches.subcommand_name().and_then(Chosen::named).unwrap()
 }
 
-/// What an error of `clap` means here.
+/// Returns the meaning of an error of `clap`.
 fn refusal(alloc: Global, error: &Error) -> WordFault
     ensures memory { kind_of error.now ≡ ErrorKind.OutOfMemory → result ≡ WordFault.Memory }
     ensures usage { result ≡ WordFault.Usage
@@ -103,10 +103,12 @@ fn refusal(alloc: Global, error: &Error) -> WordFault
     }
 }
 
-/// The subcommand that the words name. They begin with the program's name.
+/// Returns the subcommand that the words name. They begin with the program's name.
 ///
-/// `Usage` says that they are no use of the program: they name no subcommand, or have a word that is
-/// unknown or too many. `Help` answers `help`, `--help` and `-h`.
+/// - `Usage`: they are not a valid use of the program. They name no subcommand, or a word is unknown or
+///   one too many.
+/// - `Help`: they ask for help, with `help`, `--help` or `-h`.
+/// - `Memory`: memory ran out.
 pub fn chosen(alloc: Global, words: &[String]) -> Result<Chosen, WordFault>
     ensures ok { IfOk result (λ chosen. AsksFor chosen (texts_of words.now)) }
     ensures usage { result ≡ Err WordFault.Usage → IsMisuse (texts_of words.now) }

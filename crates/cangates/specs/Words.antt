@@ -14,13 +14,13 @@ asked_word word =
     else if is_help_word word then Some Help
     else (if is_version_word word then Some Version else None)
 
--- what one with an option behind it asks for: the binary form of AIGER, or help
+-- what a word asks for that is followed by an option: the binary form of AIGER, or help
 abbrev pub asked_words : List ℕ → List ℕ → Option Asked
 asked_words word option =
     if bytes_eq word (codes "aiger") && bytes_eq option (codes "--binary") then Some (File Binary)
     else (if (bytes_eq word (codes "verilog") || bytes_eq word (codes "aiger")) && is_help_option option then Some Help else None)
 
--- what the words ask for: the program's name, whatever it is, and one word, or one with an option
+-- What the words ask for. After the program's name, whatever it is, comes one word, or one word and an option.
 abbrev pub asked_by : List (List ℕ) → Option Asked
 asked_by [] = None
 asked_by (name ∷ []) = None

@@ -10,7 +10,7 @@ use can_gates::{
 use can_gates_controller::controller_circuit;
 use std::alloc::Global;
 
-/// The text of the file in this form.
+/// Returns the text of the file in this form.
 pub(crate) fn file(alloc: Global, form: Form) -> Result<Vec<u8>, CircuitFault>
     ensures { IfOk result (λ r. IsFile form r.items) }
 {
@@ -27,7 +27,8 @@ pub(crate) fn file(alloc: Global, form: Form) -> Result<Vec<u8>, CircuitFault>
     Ok(made)
 }
 
-/// The text in this form, with these names, of a circuit whose last inputs are what these registers hold.
+/// Returns the text, in this form and with these names, of a circuit whose last inputs are the contents of these
+/// registers.
 fn text(
     alloc: Global,
     form: Form,

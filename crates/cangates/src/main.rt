@@ -1,7 +1,7 @@
-//! The command `cangates`: a CAN controller as a circuit, to standard output.
+//! The command `cangates`: writes a CAN controller as a circuit to standard output.
 //!
-//! What a run does over any writers is told by [`execute`](executing::execute). That `main` joins it to the process's words
-//! and standard streams is only tested.
+//! The contract of [`execute`](executing::execute) states what a run does over any writers. That `main` connects it to
+//! the process's words and standard streams is only tested.
 //!
 //! | File | What it has | Defined in |
 //! |---|---|---|
@@ -9,7 +9,7 @@
 //! | `help.rt` | [`HELP`](help::HELP), the help text; [`VERSION`](help::VERSION) | |
 //! | `names.rt` | the names of the controller's ports and registers, and [`words_are_the_ports`](names::words_are_the_ports) | `specs/Ports.antt` |
 //! | `file.rt` | the text of a file | `specs/Files.antt` |
-//! | `executing.rt` | [`execute`](executing::execute), what a run does, its fault line and its exit status | `specs/Files.antt` |
+//! | `executing.rt` | [`execute`](executing::execute), a run, with the line of its fault and its exit status | `specs/Files.antt` |
 #![tactic(auto)]
 
 mod executing;

@@ -6,9 +6,9 @@ ghost use Rattle.cangates.specs.Words.{asked_by, asked_word, asked_words};
 /// The form of a file.
 #[derive(Clone, Copy)]
 pub enum Form {
-    /// A module of Verilog-2001.
+    /// A Verilog-2001 module.
     Verilog,
-    /// AIGER's ascii format.
+    /// AIGER's ASCII format.
     Ascii,
     /// AIGER's binary format.
     Binary,
@@ -25,8 +25,8 @@ pub enum Asked {
     Version,
 }
 
-/// What the words ask for, the first of which is the program's name: a file, the help text, also by an option behind a
-/// subcommand, or the version. Other words are no use of the program.
+/// Returns what the words ask for, or `None` if they are not a valid use of the program. The first word is the
+/// program's name. The others ask for a file, the help text (also as an option after a subcommand) or the version.
 pub fn read_words(words: &[String]) -> Option<Asked>
     ensures { result ≡ asked_by (texts_of words.now) }
 {
@@ -37,7 +37,7 @@ pub fn read_words(words: &[String]) -> Option<Asked>
     }
 }
 
-/// What one word asks for.
+/// Returns what one word asks for.
 fn read_word(word: &str) -> Option<Asked>
     ensures { result ≡ asked_word word.now }
 {
@@ -50,7 +50,7 @@ fn read_word(word: &str) -> Option<Asked>
     }
 }
 
-/// What a subcommand and an option behind it ask for.
+/// Returns what a subcommand and an option after it ask for.
 fn read_option(word: &str, option: &str) -> Option<Asked>
     ensures { result ≡ asked_words word.now option.now }
 {

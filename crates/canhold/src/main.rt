@@ -1,6 +1,6 @@
 //! The command `canhold`: the proved reference of the conformance kit, from standard input to standard output.
 //!
-//! What a run does over any reader and writers is told by the crate `canhold_commands`. That `main` joins its
+//! What a run does over any reader and writers is stated in the crate `canhold_commands`. That `main` connects its
 //! `execute` to the process's words and standard streams is only tested.
 #![tactic(auto)]
 

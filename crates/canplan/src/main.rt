@@ -1,6 +1,7 @@
-//! The command `canplan`: how late the frames of a network can be, from standard input to standard output.
+//! The command `canplan`: the worst-case response times of the messages of a network, from standard input to standard
+//! output.
 //!
-//! What a run does over any reader and writers is told by the crate `can_plan_text`. That `main` joins its
+//! What a run does over any reader and writers is stated in the crate `can_plan_text`. That `main` connects its
 //! `execute` to the process's words and standard streams is only tested.
 #![tactic(auto)]
 

@@ -1,4 +1,4 @@
-//! Buses: scenarios that are run, and reported.
+//! Buses: scenarios that are run and reported.
 ghost use Rattle.std.specs.Prelude.{◌<◌, ◌≤◌};
 
 use crate::commands::{Program, answered};
@@ -8,13 +8,13 @@ use crate::text::Text;
 use crate::traffic::{MOST_PORTS, push_frame, push_offer};
 use std::alloc::{AllocError, Global};
 
-/// How many bit times a scenario may have.
+/// The greatest number of bit times of a scenario.
 const MOST_BITS: u32 = 1_000_000;
 
-/// How many bit times a frame takes, with what stands behind it, on the average.
+/// How many bit times a frame takes on average, with the time until the next one.
 const FRAME_TIME: u32 = 125;
 
-/// A bus: its ports, how long it is run, and how many percent of this its frames take.
+/// A bus: the number of its ports, how long it is run, and how many per cent of this time its frames take.
 #[derive(Clone, Copy)]
 struct Plan {
     ports: u32,
@@ -23,7 +23,7 @@ struct Plan {
 }
 
 impl Plan {
-    /// So many bit times, or as many as there may be.
+    /// Returns a bus with these numbers, each limited to its range.
     fn new(ports: u32, bits: u32, load: u32) -> Plan {
         Plan {
             ports: ports.clamp(1, MOST_PORTS),
@@ -32,7 +32,7 @@ impl Plan {
         }
     }
 
-    /// How many frames each port has.
+    /// Returns how many frames each port has.
     fn frames(&self) -> u32 {
         let busy = u64::from(self.bits) * u64::from(self.load) / 100;
         let frames = busy / u64::from(FRAME_TIME) / u64::from(self.ports.max(1));
@@ -40,7 +40,7 @@ impl Plan {
     }
 }
 
-/// Runs buses to which frames are offered meanwhile, and such with long queues.
+/// Runs buses to which frames are offered during the run, and buses with long queues.
 pub fn run_open(
     alloc: Global,
     random: &mut Random,
@@ -75,7 +75,7 @@ fn run(alloc: Global, scenario: Text, digest: &mut Digest) -> Result<(), AllocEr
     Ok(())
 }
 
-/// A scenario whose frames are offered at times of their own.
+/// Returns a scenario whose frames are offered at times of their own.
 fn open_scenario(alloc: Global, random: &mut Random, plan: Plan) -> Text {
     let mut text = Text::new(alloc);
     text.push("version = 2\nbits = ");
@@ -91,7 +91,7 @@ fn open_scenario(alloc: Global, random: &mut Random, plan: Plan) -> Text {
     text
 }
 
-/// Runs buses on which levels are inverted, for all ports or for one.
+/// Runs buses with hits for all ports and for one.
 pub fn run_disturbed(
     alloc: Global,
     random: &mut Random,
@@ -117,7 +117,7 @@ pub fn run_disturbed(
     Ok(())
 }
 
-/// The head of a scenario whose frames all wait as it begins.
+/// Returns the first lines of a scenario whose frames are all queued before it begins.
 fn head_of(alloc: Global, plan: Plan) -> Text {
     let mut text = Text::new(alloc);
     text.push("version = 1\nbits = ");
@@ -126,7 +126,7 @@ fn head_of(alloc: Global, plan: Plan) -> Text {
     text
 }
 
-/// Times at which the wire is inverted, so far apart on the average.
+/// Appends times of hits for all ports, on average 2 · `gap` bit times apart.
 fn push_times(text: &mut Text, random: &mut Random, plan: Plan, gap: u32) {
     text.push("at = [\n");
     let mut time = random.below(gap.max(1));
@@ -141,7 +141,7 @@ fn push_times(text: &mut Text, random: &mut Random, plan: Plan, gap: u32) {
     text.push("]\n");
 }
 
-/// Attempts in which the wire is inverted, and where.
+/// Appends hits in attempts.
 fn push_attempts(text: &mut Text, random: &mut Random, plan: Plan, gap: u32) {
     text.push("in = [\n");
     for attempt in 0..plan.bits / FRAME_TIME {
@@ -152,7 +152,7 @@ fn push_attempts(text: &mut Text, random: &mut Random, plan: Plan, gap: u32) {
     text.push("]\n");
 }
 
-/// A list of two numbers.
+/// Appends a list of two numbers.
 fn push_pair(text: &mut Text, first: u32, second: u32) {
     text.push("[");
     text.push_number(first);
@@ -161,7 +161,7 @@ fn push_pair(text: &mut Text, first: u32, second: u32) {
     text.push("],\n");
 }
 
-/// Times at which one port sees the opposite.
+/// Appends times of hits for one port.
 fn push_views(text: &mut Text, random: &mut Random, plan: Plan, gap: u32) {
     text.push("view = [\n");
     let mut time = random.below(gap.max(1));
@@ -175,7 +175,7 @@ fn push_views(text: &mut Text, random: &mut Random, plan: Plan, gap: u32) {
     text.push("]\n");
 }
 
-/// The ports, each with its queue.
+/// Appends the ports, each with its queue.
 fn push_queues(text: &mut Text, random: &mut Random, plan: Plan) {
     for node in 0..plan.ports.min(MOST_PORTS) {
         text.push("\n[[port]]\nlog = 5000\nqueue = [\n");

@@ -15,10 +15,11 @@ pub enum Program {
     Canplan,
 }
 
-/// How much a reader gives at once.
+/// How many bytes a reader gives at once.
 const PIECE: usize = 1 << 16;
 
-/// What the program writes for this subcommand of the text, with its status behind. It is put into the digest.
+/// Returns what the program writes for this text and subcommand. It is put into the digest, with the line of a fault
+/// and the status.
 pub fn answered(
     alloc: Global,
     program: Program,

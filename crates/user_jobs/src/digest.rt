@@ -1,6 +1,6 @@
-//! A number that tells answers apart.
+//! A number by which outputs are compared.
 
-/// A number that tells apart what was put into it, and in which order.
+/// A number that depends on what was put into it, and in which order.
 #[derive(Drop)]
 pub struct Digest {
     state: u64,
@@ -10,12 +10,12 @@ pub struct Digest {
 const FACTOR: u64 = 0x9e37_79b9_7f4a_7c15;
 
 impl Digest {
-    /// Nothing was put into it.
+    /// Returns a digest into which nothing was put.
     pub fn new() -> Digest {
         Digest { state: 0 }
     }
 
-    /// What it has come to.
+    /// Returns its value.
     pub fn value(&self) -> u64 {
         self.state ^ (self.state >> 31)
     }
@@ -26,7 +26,7 @@ impl Digest {
         self.state = mixed.rotate_left(29);
     }
 
-    /// Puts a text into it, by words of eight bytes, and how long it is.
+    /// Puts a text into it, in words of eight bytes, and its length.
     pub fn put_text(&mut self, text: &[u8]) {
         let (words, rest) = text.as_chunks::<8>();
         for word in words {

@@ -1,4 +1,4 @@
-//! Kits: cases whose transcripts are expected and judged, and a session line by line.
+//! Kits: cases for which transcripts are expected and judged, and a session line by line.
 ghost use Rattle.std.specs.Prelude.{◌<◌, ◌≤◌, IfOk};
 
 use crate::commands::{Program, answered};
@@ -8,13 +8,14 @@ use crate::text::Text;
 use crate::traffic::{frame_of, push_frame, wire_of};
 use std::alloc::{AllocError, Global};
 
-/// How many cases a document may have.
+/// The greatest number of cases of a document.
 const MOST_CASES: u32 = 4096;
 
-/// How many bit times a case may have.
+/// The greatest number of bit times of a case.
 const MOST_BITS: u32 = 100_000;
 
-/// Expects and judges a kit of many cases and one of a few long ones, and plays a session.
+/// Runs `canhold expect` and `judge` on a kit of many cases and on one of a few long ones, and `canhold play` on a
+/// session.
 pub fn hold(
     alloc: Global,
     random: &mut Random,
@@ -30,7 +31,7 @@ pub fn hold(
     Ok(())
 }
 
-/// Expects a kit of so many cases, and judges what was expected, with mistakes.
+/// Runs `canhold expect` on a kit, and `canhold judge` on the transcripts with some changed.
 fn hold_kit(
     alloc: Global,
     random: &mut Random,
@@ -49,7 +50,8 @@ fn hold_kit(
     Ok(())
 }
 
-/// A case in which the tester sends so many frames, some of them wrong, and the controller may have some too.
+/// Appends a case in which the tester sends at most this many frames, some with an inverted level. The controller may
+/// have frames to send too.
 fn push_case(
     alloc: Global,
     text: &mut Text,
@@ -83,7 +85,7 @@ fn push_case(
     Ok(())
 }
 
-/// The head of the case of this number, of so many bit times.
+/// Appends the first lines of the case with this number.
 fn push_head(text: &mut Text, case: u32, bits: u32) {
     text.push("[[case]]\nversion = 1\nname = \"traffic-");
     text.push_number(case.wrapping_mul(2654435761) % 1_000_000_007);
@@ -94,7 +96,7 @@ fn push_head(text: &mut Text, case: u32, bits: u32) {
     text.push("\ntester = [\n");
 }
 
-/// Levels of a frame with some idle ones before and behind, in a string: how many they are.
+/// Appends the levels of a frame, with idle ones before and after, as a string, and returns how many they are.
 fn push_frame_levels(
     alloc: Global,
     tester: &mut Text,
@@ -126,7 +128,7 @@ fn push_frame_levels(
     Ok(before + behind + shown as u32)
 }
 
-/// Makes some of what is told something else: another kind of error.
+/// Changes some of the reported errors to another kind.
 fn mistake_some(random: &mut Random, told: &mut [u8]) {
     for place in 0..told.len() {
         let is_mistaken = told.len() - place >= 9
@@ -139,7 +141,7 @@ fn mistake_some(random: &mut Random, told: &mut [u8]) {
     }
 }
 
-/// A session line by line, of so many lines that play.
+/// Returns a session with this many lines that play levels.
 fn session(alloc: Global, random: &mut Random, lines: u32) -> Result<String, AllocError> {
     let mut text = Text::new(alloc);
     for line in 0..lines {
@@ -159,7 +161,7 @@ fn session(alloc: Global, random: &mut Random, lines: u32) -> Result<String, All
     text.finished()
 }
 
-/// A line of levels that the tester plays: a frame, or none.
+/// Appends a line that plays the levels of a frame, or of none.
 fn push_played(alloc: Global, text: &mut Text, random: &mut Random) -> Result<(), AllocError> {
     text.push("play 111111111111");
     let node = random.below(60);

@@ -1,25 +1,25 @@
-//! The jobs that users of these crates wait for, each on inputs of its own, which a seed makes: so that two builds can be
-//! timed side by side, and what they answer compared.
+//! Jobs that take users of these crates time, each on generated inputs. With the same seed, two builds can be timed
+//! side by side and their output compared.
 //!
 //!     $ user_jobs bus 1 25
 //!     bus 8c9a0b4cd3b0a7f1
 //!
-//! The words are a job, a seed below 2^32, and a size; `all` does each job. For a job a line is written, with a digest of
-//! all that it answered. Nothing but the words is read.
+//! The words are a job, a seed below 2^32, and a size; `all` does each job. Each job writes a line with a digest of all
+//! its output. Nothing but the words is read.
 //!
-//! | Job | What is done, as users do it |
+//! | Job | What is done |
 //! |---|---|
-//! | `bus` | `canbit run`, with frames that are offered meanwhile, and with long queues |
+//! | `bus` | `canbit run`, with frames that are offered during the run, and with long queues |
 //! | `disturbed` | `canbit run`, with hits for all ports and for one |
-//! | `ports` | ports driven bit by bit, and what each port of a scenario does when |
+//! | `ports` | ports driven bit by bit, and what each port of a scenario does in each bit time |
 //! | `plan` | `canplan` |
 //! | `texts` | `canbit decode`, `encode` and `check` |
 //! | `kit` | `canhold expect`, `judge` and `play` |
 //!
 //! | File | What it has |
 //! |---|---|
-//! | `random.rt` | [`Random`](random::Random), numbers that look random |
-//! | `digest.rt` | [`Digest`](digest::Digest), a number that tells answers apart |
+//! | `random.rt` | [`Random`](random::Random), pseudo-random numbers |
+//! | `digest.rt` | [`Digest`](digest::Digest), a number by which outputs are compared |
 //! | `text.rt` | [`Text`](text::Text), a text that is written piece by piece |
 //! | `traffic.rt` | frames, and their wires |
 //! | `commands.rt` | a call of a program on a text |
@@ -44,7 +44,7 @@ use random::Random;
 use std::alloc::{AllocError, Global};
 use std::io;
 
-/// What is done.
+/// A job.
 #[derive(Clone, Copy)]
 enum Job {
     Bus,
@@ -56,7 +56,7 @@ enum Job {
 }
 
 impl Job {
-    /// The word for it.
+    /// Returns the word that names it.
     fn name(self) -> &'static str {
         match self {
             Job::Bus => "bus",
@@ -82,7 +82,7 @@ const JOBS: [Job; 6] = [
 /// The greatest size.
 const MOST: u32 = 1000;
 
-/// A job of a greater size than this has several rounds of it.
+/// The greatest size of a round. A larger job has several rounds.
 const ROUND: u32 = 25;
 
 fn main(rt: HostRuntime) -> io::Result<()> {
@@ -103,7 +103,7 @@ fn main(rt: HostRuntime) -> io::Result<()> {
     Ok(())
 }
 
-/// The number that a word tells, or 1, and no more than the most.
+/// Returns the number in the word at this place, or 1 if there is none, but at most `most`.
 fn number(words: &[String], place: usize, most: u32) -> u32
     ensures { result ≤ most }
 {
@@ -114,7 +114,7 @@ fn number(words: &[String], place: usize, most: u32) -> u32
     told.unwrap_or(1).min(most)
 }
 
-/// Does a job, and answers the digest of what came of it.
+/// Does a job, and returns the digest of its output.
 fn done(alloc: Global, job: Job, seed: u32, size: u32) -> Result<u64, AllocError>
     requires { size ≤ 1000 }
 {

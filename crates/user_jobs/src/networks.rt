@@ -1,4 +1,4 @@
-//! Networks of messages, and how late these can be.
+//! Networks of messages, and their worst-case response times.
 ghost use Rattle.std.specs.Prelude.{◌<◌, ◌≤◌};
 
 use crate::commands::{Program, answered};
@@ -7,11 +7,11 @@ use crate::random::Random;
 use crate::text::Text;
 use std::alloc::{AllocError, Global};
 
-/// How many messages a network may have.
+/// The greatest number of messages of a network.
 const MOST_MESSAGES: u32 = 512;
 
-/// A network: how many messages, how many percent of the bus they load, how far apart two hits come, 0 for none, and how
-/// much oftener one message may come than another.
+/// A network: the number of its messages, their load in per cent, and the spacing of hits, or 0 for no hits. The load
+/// of one message is at most `spread` times that of another.
 #[derive(Clone, Copy)]
 struct Plan {
     messages: u32,
@@ -20,7 +20,7 @@ struct Plan {
     spread: u32,
 }
 
-/// Asks how late the messages of some networks can be.
+/// Runs `canplan` on some networks.
 pub fn plan_networks(
     alloc: Global,
     random: &mut Random,
@@ -52,7 +52,7 @@ pub fn plan_networks(
     Ok(())
 }
 
-/// The document of a network.
+/// Returns the document of a network.
 fn document(alloc: Global, random: &mut Random, plan: Plan) -> Result<String, AllocError> {
     let mut text = Text::new(alloc);
     text.push("version = 1\n");
@@ -74,7 +74,7 @@ fn document(alloc: Global, random: &mut Random, plan: Plan) -> Result<String, Al
     text.finished()
 }
 
-/// A message that has its share of the load.
+/// Appends a message with its share of the load.
 fn push_message(
     text: &mut Text,
     random: &mut Random,

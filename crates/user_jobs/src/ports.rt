@@ -1,4 +1,4 @@
-//! Ports that are driven bit by bit, and what each port of a scenario does when.
+//! Ports driven bit by bit, and what each port of a scenario does in each bit time.
 ghost use Rattle.std.specs.Prelude.{◌<◌, ◌≤◌, ◌≡◌, length};
 
 use crate::digest::Digest;
@@ -13,10 +13,10 @@ use can_port_times::{Brought, PortTime, told_times};
 use can_scenario_text::Scenario;
 use std::alloc::{AllocError, Global};
 
-/// How many frames may wait at a port, and how many its log holds.
+/// The capacity of a port's queue, and of its log, in frames.
 const ROOM: usize = 64;
 
-/// Drives ports bit by bit, and asks of the ports of a scenario what they do when.
+/// Drives ports bit by bit, and computes what the ports of a scenario do in each bit time.
 pub fn drive(
     alloc: Global,
     random: &mut Random,
@@ -30,7 +30,7 @@ pub fn drive(
     ask_times(alloc, random, 16, 600 * size, digest)
 }
 
-/// Drives so many ports on one wire, which is disturbed now and then.
+/// Drives this many ports on one wire, with a hit from time to time.
 fn drive_ports(
     alloc: Global,
     random: &mut Random,
@@ -70,7 +70,7 @@ fn drive_ports(
     Ok(())
 }
 
-/// What the ports drive together.
+/// Returns the level that results from what the ports drive.
 fn wire_of(ports: &[PackedNode]) -> Level {
     let mut wired = Level::Recessive;
     for port in ports {
@@ -92,7 +92,7 @@ fn offer(ports: &mut [PackedNode], random: &mut Random) {
     }
 }
 
-/// The number of an event.
+/// Returns the number of an event.
 fn number_of(event: Event) -> u64 {
     match event {
         Event::Sent(frame) => u64::from(frame.id().raw()) * 16 + 1,
@@ -105,7 +105,7 @@ fn number_of(event: Event) -> u64 {
     }
 }
 
-/// The number of a kind of error.
+/// Returns the number of a kind of error.
 fn number_of_error(kind: ErrorKind) -> u64
     ensures { result < 5 }
 {
@@ -118,7 +118,7 @@ fn number_of_error(kind: ErrorKind) -> u64
     }
 }
 
-/// What a port has come to.
+/// Puts the state of a port after the run into the digest.
 fn put_port(digest: &mut Digest, port: &PackedNode) {
     let (transmit, receive) = port.counters();
     digest.put(u64::from(transmit));
@@ -135,7 +135,7 @@ fn put_port(digest: &mut Digest, port: &PackedNode) {
     }
 }
 
-/// Asks of each port of a scenario what it does when.
+/// Computes what each port of a scenario does in each bit time.
 fn ask_times(
     alloc: Global,
     random: &mut Random,
@@ -156,7 +156,7 @@ fn ask_times(
     Ok(())
 }
 
-/// A scenario of a busy bus.
+/// Returns a scenario of a busy bus.
 fn scenario(alloc: Global, random: &mut Random, ports: u32, bits: u32) -> Text
     requires { ports ≤ 64 }
 {
@@ -174,7 +174,7 @@ fn scenario(alloc: Global, random: &mut Random, ports: u32, bits: u32) -> Text
     text
 }
 
-/// What a port does in a bit time.
+/// Puts what a port does in a bit time into the digest.
 fn put_time(digest: &mut Digest, time: &PortTime) {
     let levels = u64::from(time.drove.code()) * 2 + u64::from(time.saw.code());
     let counts = u64::from(time.transmit) * 65536 + u64::from(time.receive);

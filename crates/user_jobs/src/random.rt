@@ -1,19 +1,19 @@
-//! Numbers that look random.
+//! Pseudo-random numbers.
 ghost use Rattle.std.specs.Prelude.{◌<◌, ◌≤◌, ◌+◌};
 
-/// Numbers that look random, and are the same for a seed: SplitMix64 of Steele, Lea and Flood (2014).
+/// Pseudo-random numbers, the same for the same seed: SplitMix64 of Steele, Lea and Flood (2014).
 #[derive(Drop)]
 pub struct Random {
     state: u64,
 }
 
 impl Random {
-    /// The numbers of this seed.
+    /// Returns the generator for this seed.
     pub fn new(seed: u64) -> Random {
         Random { state: seed }
     }
 
-    /// The next number.
+    /// Returns the next number.
     pub fn next(&mut self) -> u64 {
         self.state = self.state.wrapping_add(0x9e37_79b9_7f4a_7c15);
         let once = (self.state ^ (self.state >> 30)).wrapping_mul(0xbf58_476d_1ce4_e5b9);
@@ -21,7 +21,7 @@ impl Random {
         twice ^ (twice >> 31)
     }
 
-    /// One of so many numbers, from 0 on.
+    /// Returns a number from 0 on, below `count`.
     pub fn below(&mut self, count: u32) -> u32
         requires { 0 < count }
         ensures { result < count }
@@ -29,7 +29,7 @@ impl Random {
         (self.next() % u64::from(count)) as u32
     }
 
-    /// Whether it is the one of so many times.
+    /// Returns whether a random event with probability 1 / `count` happens.
     pub fn is_one_in(&mut self, count: u32) -> bool
         requires { 0 < count }
     {

@@ -3,18 +3,18 @@
 use std::alloc::{AllocError, Global};
 use std::fmt::Write;
 
-/// A text. A piece for which there is no memory isn't written whole, and the text isn't complete from then on: so a
-/// piece is written by a call that can't fail, and [`Text::finished`] is asked once, behind the last.
+/// A text. If memory runs out, a piece is not written whole, and the text is incomplete from then on. So the calls that
+/// write a piece cannot fail, and [`Text::finished`] is called once at the end.
 #[derive(Drop)]
 pub struct Text {
     /// What is written so far.
     written: String,
-    /// Whether all pieces are in it.
+    /// Whether it has all pieces.
     is_complete: bool,
 }
 
 impl Text {
-    /// A text with no piece yet.
+    /// Returns an empty text.
     pub fn new(alloc: Global) -> Text {
         Text {
             written: String::new(alloc),
@@ -36,21 +36,21 @@ impl Text {
         }
     }
 
-    /// Appends a standard identifier, with its format before it.
+    /// Appends a standard identifier, after its format letter.
     pub fn push_standard(&mut self, identifier: u32) {
         if write!(self.written, "S {identifier:03x}").is_err() {
             self.is_complete = false;
         }
     }
 
-    /// Appends an extended identifier, with its format before it.
+    /// Appends an extended identifier, after its format letter.
     pub fn push_extended(&mut self, identifier: u32) {
         if write!(self.written, "E {identifier:08x}").is_err() {
             self.is_complete = false;
         }
     }
 
-    /// Appends levels, a digit each.
+    /// Appends levels, one digit each.
     pub fn push_digits(&mut self, digits: &[u8]) {
         for digit in digits {
             if self.written.push(char::from(*digit)).is_err() {
@@ -59,7 +59,7 @@ impl Text {
         }
     }
 
-    /// The whole text, where there was memory for each piece.
+    /// Returns the whole text, or an error if memory ran out for a piece.
     pub fn finished(self) -> Result<String, AllocError> {
         if self.is_complete {
             Ok(self.written)

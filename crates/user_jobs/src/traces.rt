@@ -1,4 +1,4 @@
-//! Traces that are decoded, and lines of frames and vectors.
+//! Traces to decode, and lines of frames and vectors.
 ghost use Rattle.std.specs.Prelude.{◌<◌, ◌≤◌};
 
 use crate::commands::{Program, answered};
@@ -7,27 +7,27 @@ use crate::random::Random;
 use crate::traffic::{frame_of, wire_of};
 use std::alloc::{AllocError, Global};
 
-/// How many frames, lines or vectors a text is put together of.
+/// How many frames, lines or vectors a text is composed from.
 const POOL: u32 = 4096;
 
-/// How many levels stand in a line.
+/// How many levels a line has.
 const LINE: usize = 64;
 
-/// Pieces of which a text is put together.
+/// Pieces from which a text is composed.
 type Pool = Vec<Vec<u8>>;
 
-/// What a trace is like.
+/// The form of a trace.
 #[derive(Clone, Copy)]
 enum Form {
-    /// Frames, one behind another.
+    /// Frames, one after another.
     Busy,
     /// The same, with line ends.
     Lines,
-    /// The same, with levels that are wrong.
+    /// The same, with some inverted levels.
     Wrong,
-    /// The same, with blanks between levels.
+    /// The same, with a space after each level.
     Apart,
-    /// Frames with much time between them.
+    /// Frames with long idle times between them.
     Idle,
 }
 
@@ -64,7 +64,7 @@ pub fn read(
     )
 }
 
-/// Decodes traces of so many levels.
+/// Decodes traces of this many levels.
 fn decode_traces(
     alloc: Global,
     random: &mut Random,
@@ -85,7 +85,7 @@ fn decode_traces(
     Ok(())
 }
 
-/// A trace of this form, of at least so many levels, or a sixteenth of them where blanks stand between them.
+/// Returns a trace of this form with at least this many levels, or a sixteenth of them if spaces separate them.
 fn trace_of(
     alloc: Global,
     random: &mut Random,
@@ -106,7 +106,7 @@ fn trace_of(
     }
 }
 
-/// What canbit does with lines, at least so many bytes of them.
+/// Runs `canbit` on lines with at least `least` bytes.
 fn answer_lines(
     alloc: Global,
     random: &mut Random,
@@ -119,7 +119,7 @@ fn answer_lines(
     answer(alloc, subcommand, &lines, digest)
 }
 
-/// What canbit does with a text.
+/// Runs `canbit` on a text.
 fn answer(
     alloc: Global,
     subcommand: &str,
@@ -130,7 +130,7 @@ fn answer(
     Ok(())
 }
 
-/// The digits of frames, each with intermission behind it.
+/// Returns the digits of frames, each with intermission after it.
 fn frames_pool(alloc: Global, random: &mut Random) -> Result<Pool, AllocError> {
     let mut pool = Vec::new(alloc);
     for _ in 0..POOL {
@@ -144,7 +144,7 @@ fn frames_pool(alloc: Global, random: &mut Random) -> Result<Pool, AllocError> {
     Ok(pool)
 }
 
-/// Lines of frame texts.
+/// Returns lines of frame texts.
 fn texts_pool(alloc: Global, random: &mut Random) -> Result<Pool, AllocError> {
     let mut pool = Vec::new(alloc);
     for _ in 0..POOL {
@@ -158,7 +158,7 @@ fn texts_pool(alloc: Global, random: &mut Random) -> Result<Pool, AllocError> {
     Ok(pool)
 }
 
-/// Lines of vectors, of which some have a wrong level.
+/// Returns lines of vectors, some with a wrong level.
 fn vectors_pool(alloc: Global, random: &mut Random) -> Result<Pool, AllocError> {
     let mut pool = Vec::new(alloc);
     for _ in 0..POOL {
@@ -179,7 +179,7 @@ fn vectors_pool(alloc: Global, random: &mut Random) -> Result<Pool, AllocError> 
     Ok(pool)
 }
 
-/// Inverts the last level of a line.
+/// Makes the last level of a line, which is recessive, dominant.
 fn invert_last(line: &mut Vec<u8>) {
     let last = line.len().saturating_sub(1);
     if last < line.len() {
@@ -187,7 +187,7 @@ fn invert_last(line: &mut Vec<u8>) {
     }
 }
 
-/// At least so many bytes of pieces in some order.
+/// Returns pieces in random order, with at least `least` bytes.
 fn text_of(
     alloc: Global,
     random: &mut Random,
@@ -207,7 +207,7 @@ fn text_of(
     Ok(text)
 }
 
-/// The text with a line end behind each line's levels.
+/// Returns the text with a line end after every [`LINE`] levels.
 fn with_ends(alloc: Global, text: &[u8]) -> Result<Vec<u8>, AllocError> {
     let mut lines = Vec::new(alloc);
     for line in text.chunks(LINE) {
@@ -217,7 +217,7 @@ fn with_ends(alloc: Global, text: &[u8]) -> Result<Vec<u8>, AllocError> {
     Ok(lines)
 }
 
-/// The text with a blank behind each level.
+/// Returns the text with a space after each level.
 fn with_blanks(alloc: Global, text: &[u8]) -> Result<Vec<u8>, AllocError> {
     let mut apart = Vec::new(alloc);
     for digit in text {
@@ -227,7 +227,7 @@ fn with_blanks(alloc: Global, text: &[u8]) -> Result<Vec<u8>, AllocError> {
     Ok(apart)
 }
 
-/// Inverts one level in so many, on the average.
+/// Inverts one of `gap` levels on average.
 fn invert_some(random: &mut Random, text: &mut [u8], gap: u32) {
     let mut until = random.below(gap.clamp(1, 1_000_000) * 2);
     for digit in text.iter_mut() {
@@ -239,7 +239,7 @@ fn invert_some(random: &mut Random, text: &mut [u8], gap: u32) {
     }
 }
 
-/// At least so many levels, most of them recessive ones between frames.
+/// Returns at least `least` levels, most of them recessive ones between frames.
 fn idle_text(
     alloc: Global,
     random: &mut Random,
@@ -262,7 +262,7 @@ fn idle_text(
     Ok(text)
 }
 
-/// So many levels that look random.
+/// Returns this many random levels, rounded down to a multiple of 64.
 fn noise(alloc: Global, random: &mut Random, count: usize) -> Result<Vec<u8>, AllocError> {
     let mut text = Vec::with_capacity(alloc, count.min(1 << 30))?;
     for _ in 0..count / 64 {

@@ -7,13 +7,13 @@ use can_frame::{Frame, Id};
 use can_wire::encode;
 use std::alloc::{AllocError, Global};
 
-/// How many ports there are at most.
+/// The greatest number of ports.
 pub const MOST_PORTS: u32 = 64;
 
-/// How many levels stand behind the ACK slot.
+/// How many levels of a wire come after the ACK slot.
 const BEHIND_SLOT: usize = 8;
 
-/// A frame that only the port of this number sends: with data, or a remote one.
+/// Returns a data or remote frame that only the port with this number sends.
 pub fn frame_of(random: &mut Random, node: u32) -> Option<Frame>
     requires { node < 64 }
 {
@@ -25,7 +25,7 @@ pub fn frame_of(random: &mut Random, node: u32) -> Option<Frame>
     frame_with(random, id)
 }
 
-/// A frame with this identifier.
+/// Returns a frame with this identifier.
 pub fn frame_with(random: &mut Random, id: Id) -> Option<Frame> {
     if random.is_one_in(16) {
         return Frame::remote(id, random.below(9) as u8).ok();
@@ -35,7 +35,7 @@ pub fn frame_with(random: &mut Random, id: Id) -> Option<Frame> {
     Frame::data(id, count as u8, &bytes[..count]).ok()
 }
 
-/// Appends the text of a frame that only the port of this number sends.
+/// Appends the text of a frame that only the port with this number sends.
 pub fn push_frame(text: &mut Text, random: &mut Random, node: u32)
     requires { node < 64 }
 {
@@ -44,7 +44,7 @@ pub fn push_frame(text: &mut Text, random: &mut Random, node: u32)
     }
 }
 
-/// Appends a frame that only the port of this number sends, and that it is offered at some time of so many.
+/// Appends an offer of a frame that only the port with this number sends, at a random time before `bits`.
 pub fn push_offer(text: &mut Text, random: &mut Random, node: u32, bits: u32)
     requires { node < 64 }
 {
@@ -55,7 +55,7 @@ pub fn push_offer(text: &mut Text, random: &mut Random, node: u32, bits: u32)
     text.push("\"],\n");
 }
 
-/// The digits of a frame's wire, where some port acknowledges.
+/// Returns the digits of a frame's wire with a dominant ACK slot.
 pub fn wire_of(alloc: Global, frame: &Frame) -> Result<Vec<u8>, AllocError> {
     let mut digits = Vec::new(alloc);
     let levels = encode(frame);

@@ -6,7 +6,7 @@ use Rattle.can_plan_text.specs.declared.canplan_fault.CanplanFault.TheVariants.{
 use Rattle.can_plan_text.specs.Status.{plan_fault_of}
 use Rattle.can_plan_text.proofs.answering.answer_document.Goals as goal
 
--- a field that is told is the document's
+-- a reported field is the document's
 field-of : (fault : PlanFault) (wrong : PlanField) → plan_fault_of fault ≡ Field wrong → fault ≡ plan.Field wrong
 field-of (plan.Field other) wrong is = ap plan.Field (cc)
 field-of plan.Memory wrong is = absurd (cc)

@@ -6,7 +6,7 @@ use Rattle.can_plan_text.specs.declared.canplan_fault.CanplanFault.TheVariants.{
 use Rattle.can_plan_text.specs.Status.{worst_fault_of}
 use Rattle.can_plan_text.proofs.drawing.write_timeline.Goals as goal
 
--- a fault that is told is the one that was found
+-- a reported fault is the one that was found
 field-of : (fault : WorstFault) (wrong : PlanField) → worst_fault_of fault ≡ Field wrong → fault ≡ worst.Field wrong
 field-of (worst.Field other) wrong is = ap worst.Field (cc)
 field-of worst.Unknown wrong is = absurd (cc)

@@ -7,7 +7,7 @@ use Rattle.can_plan_text.specs.declared.plan.Planned.{Planned}
 use Rattle.can_plan_text.specs.Timelines.{IsNamedAt, fault_of}
 use Rattle.can_plan_text.proofs.timelines.timeline.Goals as goal
 
--- a field that is told is the document's
+-- a reported field is the document's
 field-of : (fault : PlanFault) (wrong : PlanField) → fault_of fault ≡ Field wrong → fault ≡ refused.Field wrong
 field-of (refused.Field other) wrong is = ap refused.Field (cc)
 field-of refused.Memory wrong is = absurd (cc)
