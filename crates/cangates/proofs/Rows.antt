@@ -1,4 +1,4 @@
--- The definitions computed on words that were worked out by hand.
+-- Definitions computed on hand-computed test vectors.
 use Rattle.std.proofs.Common.{◌≡◌, ℕ, false, List, [], ◌∷◌, map, codes, refl}
 use Rattle.can_gates.specs.declared.literal.Literal.{Literal}
 use Rattle.cangates.specs.Ports.{literals_of, sized}

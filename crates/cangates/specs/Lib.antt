@@ -1,4 +1,4 @@
--- To believe: what public calls and laws promise is said in these words
+-- To believe: the definitions in which public calls and laws state what they promise
 pub mod Words
 pub mod Ports
 pub mod Files

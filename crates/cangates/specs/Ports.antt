@@ -1,5 +1,5 @@
--- The words of the circuit: the name of each, with the literals of the controller that it names, the lowest place first.
--- (docs/CIRCUIT.md, "A step" and "Registers")
+-- The words (vectors) of the circuit: the name of each, with the literals of the controller that it names, the lowest
+-- place first. (docs/CIRCUIT.md, "A step" and "Registers")
 use Rattle.std.specs.Prelude.{ℕ, ◌≡◌, List, [], ◌∷◌, ◌++◌, length, map, codes}
 use Rattle.can_gates.specs.declared.literal.Literal.{Literal}
 use Rattle.can_gates.specs.declared.files.words.Word.{Word}
@@ -10,7 +10,7 @@ use Rattle.can_gates_controller.specs.declared.registers.Registers.{Registers}
 use Rattle.can_gates_controller.specs.declared.design.Design.{Design}
 use Rattle.can_gates_controller.specs.Listed.{nibble_before, placed}
 
--- what comes in
+-- the inputs
 abbrev pub input_words : InputPorts → List (List ℕ × List Literal)
 input_words k =
     (codes "reset", k.reset ∷ [])
@@ -26,7 +26,7 @@ input_words k =
     ∷ (codes "wait_dlc", nibble_before k.frame.dlc [])
     ∷ (codes "wait_data", placed 64 k.frame.bytes) ∷ []
 
--- what goes out
+-- the outputs
 abbrev pub output_words : OutputPorts → List (List ℕ × List Literal)
 output_words k =
     (codes "drive", k.drive ∷ [])
@@ -42,7 +42,7 @@ output_words k =
     ∷ (codes "off", k.off ∷ [])
     ∷ (codes "legal", k.legal ∷ []) ∷ []
 
--- what the registers hold
+-- the registers
 abbrev pub register_words : Registers → List (List ℕ × List Literal)
 register_words k =
     let wires = k.controller.wires in
@@ -65,21 +65,22 @@ register_words k =
     ∷ (codes "heard_check", placed 15 k.heard.check)
     ∷ (codes "own", placed 103 k.own) ∷ []
 
--- all literals that words name, one word behind another
+-- the literals of all words, one word after another
 abbrev pub literals_of : List (List ℕ × List Literal) → List Literal
 literals_of [] = []
 literals_of (w ∷ words) = w.1 ++ literals_of words
 
 -- ---- the names of a file
 
--- a word has its name, and as many places as it names literals
+-- the name of a word, and the number of its literals
 abbrev pub sized : List ℕ × List Literal → List ℕ × ℕ
 sized w = (w.0, length w.1)
 
+-- the name and the number of places of a word in a file
 abbrev pub has : Word → List ℕ × ℕ
 has w = (w.name.now, w.places)
 
--- the names are those of the circuit and of its words, in their order. What they mean, in comments, may be any text
+-- The names are those of the circuit and of its words, in their order. Their meanings, in comments, may be any text.
 pub record IsNamed (n : Names) (d : Design) : Type 0 where
   pub circuit : n.circuit.now ≡ codes "riddlesage_controller"
   pub inputs : map has n.inputs.now ≡ map sized (input_words d.inputs)

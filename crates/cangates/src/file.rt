@@ -1,4 +1,4 @@
-//! The files of the controller's circuit.
+//! The file of the controller's circuit.
 ghost use Rattle.std.specs.Prelude.{◌≡◌, ◌≤◌, length, IfOk};
 ghost use Rattle.cangates.specs.Files.{IsFile, text_in};
 
@@ -27,7 +27,7 @@ pub(crate) fn file(alloc: Global, form: Form) -> Result<Vec<u8>, CircuitFault>
     Ok(made)
 }
 
-/// The text in this form, with these names, of a circuit whose last inputs are what these registers hold.
+/// The text of a circuit in this form, with these names. Its last inputs are the outputs of these registers.
 fn text(
     alloc: Global,
     form: Form,
