@@ -14,8 +14,11 @@ use toml::Table;
 /// Returns the name of the case that a field of a kit document belongs to, as its table or its transcript's table has
 /// it.
 ///
-/// It returns `None` if the field belongs to no case, if the table has no name of 1 to 80 letters from a to z, digits
-/// and hyphens, or if an allocation failed.
+/// It returns `None` in three cases:
+///
+/// - The field belongs to no case.
+/// - The table has no name of 1 to 80 letters from a to z, digits and hyphens.
+/// - An allocation failed.
 pub fn case_of(alloc: Global, text: &[u8], wrong: KitField) -> Option<String>
     ensures { IfSome result (λ name. IsCaseIn text.now wrong (string_bytes name)) }
 {

@@ -22,7 +22,7 @@ const GREETING: &[u8] = b"can-kit 1 Riddlesage, the proved reference\n";
 /// the protocol, the reply begins with `error`.
 ///
 /// - `Read`, `Long`: the reader failed, or the input has more than 2^63 bytes. All complete lines have their replies.
-/// - `Memory`: an allocation failed. The lines before it have their replies.
+/// - `Memory`: an allocation failed. The first lines, before some line, have their replies.
 /// - `Write`: the writer failed. It has a prefix of the greeting and of the replies to the first lines.
 ///
 /// It allocates a port at each `case` line, and memory for the longest reply, of at most 4096 bit times.
