@@ -1,4 +1,4 @@
--- Hand-computed test vectors for the words.
+-- Definitions computed on hand-computed test vectors.
 use Rattle.std.proofs.Common.{◌≡◌, ℕ, false, List, [], ◌∷◌, map, codes, refl}
 use Rattle.can_gates.specs.declared.literal.Literal.{Literal}
 use Rattle.cangates.specs.Ports.{literals_of, sized}

@@ -1,4 +1,4 @@
--- What is written of a file, for each result.
+-- What is written of a file, for each outcome.
 use Rattle.std.proofs.Common.{refl, sym, subst, arith}
 use Rattle.std.proofs.lemmas.Bool.{both_ways}
 use Rattle.std.specs.Prelude.{◌≡◌, ℕ, Bool, false, List, Option, Some, None, Result, Ok, Err, is_err, OnOk, OnErr, IfErr}

@@ -18,14 +18,15 @@ use Rattle.cangates.specs.declared.words.Form.{Form}
 use Rattle.cangates.specs.declared.words.Form.TheVariants.{Verilog, Ascii, Binary}
 use Rattle.cangates.specs.Ports.{IsNamed}
 
--- the text of a circuit in each form
+-- The text of a circuit in each form.
 abbrev pub text_in : Form → Names → CircuitParts → List Register → List Literal → List ℕ
 text_in Verilog n c registers outputs = verilog_text n c registers outputs
 text_in Ascii n c registers outputs = ascii_text n c registers outputs
 text_in Binary n c registers outputs = binary_text n c registers outputs
 
--- The text is that of a complete circuit which is can_mac's controller: at first, after a reset, in each step and in each run.
--- Its inputs, registers and outputs have the names of Ports.antt, in their order, and a line with the meaning of each.
+-- The text is that of a complete circuit. This circuit is the controller of can_mac: in the initial state, after a
+-- reset, in each step and in each run. Inputs, registers and outputs have the names of Ports.antt, in their order, and
+-- each a line with its meaning.
 pub record IsFile (form : Form) (text : List ℕ) : Type 0 where
   pub names : Names
   pub design : Design
@@ -40,14 +41,14 @@ pub record IsFile (form : Form) (text : List ℕ) : Type 0 where
   pub readable : AreReadable names
   pub is : text ≡ text_in form names design.circuit design.registers.items design.listed.items
 
--- what is written if the run ends with this result: the contents of the writer before and after it
+-- What is written, for each outcome of the run. `held` and `holds` are what the writer has before and after it.
 abbrev pub Does : Form → Option (List ℕ) → Option (List ℕ) → Result (Unit {0}) TraceFault → Type 0
 Does form held holds (Ok done) = (text : List ℕ) × IsFile form text × Appends held holds text
 Does form held holds (Err Write) = (text : List ℕ) × IsFile form text × TakesFront held holds text
 Does form held holds (Err Memory) = Keeps held holds
 Does form held holds (Err _) = ⊥
 
--- the status is 3 exactly if the writer has failed, and it is not 2, which is for words
+-- The status is 3 exactly if the writer failed. It is never 2, and below 5.
 pub record TellsWriter (failed : Bool) (status : ℕ) : Type 0 where
   pub write_failed : status ≡ 3 → IsTrue failed
   pub write_told : IsTrue failed → status ≡ 3

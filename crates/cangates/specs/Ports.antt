@@ -1,5 +1,5 @@
--- The words of the circuit: the name of each, with the controller's literals in it, the lowest place first. (docs/CIRCUIT.md, "A
--- step" and "Registers")
+-- The words (vectors) of the circuit: the name of each, with the literals of the controller that it names, the lowest
+-- place first. (docs/CIRCUIT.md, "A step" and "Registers")
 use Rattle.std.specs.Prelude.{ℕ, ◌≡◌, List, [], ◌∷◌, ◌++◌, length, map, codes}
 use Rattle.can_gates.specs.declared.literal.Literal.{Literal}
 use Rattle.can_gates.specs.declared.files.words.Word.{Word}
@@ -80,7 +80,7 @@ sized w = (w.0, length w.1)
 abbrev pub has : Word → List ℕ × ℕ
 has w = (w.name.now, w.places)
 
--- the names are those of the circuit and of its words, in their order; their meanings, in comments, may be any text
+-- The names are those of the circuit and of its words, in their order. Their meanings, in comments, may be any text.
 pub record IsNamed (n : Names) (d : Design) : Type 0 where
   pub circuit : n.circuit.now ≡ codes "riddlesage_controller"
   pub inputs : map has n.inputs.now ≡ map sized (input_words d.inputs)

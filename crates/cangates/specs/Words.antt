@@ -6,7 +6,7 @@ use Rattle.cangates.specs.declared.words.Asked.{Asked}
 use Rattle.cangates.specs.declared.words.Asked.TheVariants.{File, Help, Version}
 use Rattle.cangates.specs.declared.words.Form.TheVariants.{Verilog, Ascii, Binary}
 
--- what one word asks for: a file, help or the version
+-- What one word asks for: a file, the help text or the version.
 abbrev pub asked_word : List ℕ → Option Asked
 asked_word word =
     if bytes_eq word (codes "verilog") then Some (File Verilog)
@@ -14,13 +14,13 @@ asked_word word =
     else if is_help_word word then Some Help
     else (if is_version_word word then Some Version else None)
 
--- what a word asks for that is followed by an option: the binary form of AIGER, or help
+-- What a word with an option after it asks for: the binary form of AIGER, or the help text.
 abbrev pub asked_words : List ℕ → List ℕ → Option Asked
 asked_words word option =
     if bytes_eq word (codes "aiger") && bytes_eq option (codes "--binary") then Some (File Binary)
     else (if (bytes_eq word (codes "verilog") || bytes_eq word (codes "aiger")) && is_help_option option then Some Help else None)
 
--- What the words ask for. After the program's name, whatever it is, comes one word, or one word and an option.
+-- What the words ask for: the program's name, whatever it is, followed by one word, or by one with an option.
 abbrev pub asked_by : List (List ℕ) → Option Asked
 asked_by [] = None
 asked_by (name ∷ []) = None

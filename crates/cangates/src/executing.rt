@@ -14,18 +14,18 @@ use can_program::{WordsFault, conclude, refuse, write_help};
 use can_stream::{Sink, TraceFault, write_all};
 use std::alloc::Global;
 
-/// The program's name, before the line of a fault.
+/// The program's name, which begins the line of a fault.
 pub const NAME: &str = "cangates";
 
-/// Does what the words ask for, and returns the exit status. The first word is the program's name. The call writes the
-/// file, the help text or the version to `w`, and the line of a fault to `e`.
+/// Executes the command line, and returns the exit status. The first word is the program's name. The file, the help
+/// text or the version is written to `w`, and the line of a fault to `e`.
 ///
-/// | Status | Line | Why |
+/// | Status | Line | Meaning |
 /// |---|---|---|
-/// | 0 | none | all was done |
+/// | 0 | none | success |
 /// | 2 | `cangates: usage` | the words are refused |
 /// | 3 | `cangates: P4 write` | `w` failed |
-/// | 4 | `cangates: P5 memory` | memory ran out |
+/// | 4 | `cangates: P5 memory` | an allocation failed |
 pub fn execute<W: Sink, E: Sink>(alloc: Global, words: &[String], w: &mut W, e: &mut E) -> u8
     requires { W.has_failed w.old ≡ false }
     ensures status { result < 5 }
@@ -37,7 +37,7 @@ pub fn execute<W: Sink, E: Sink>(alloc: Global, words: &[String], w: &mut W, e: 
     ensures write_failed { result ≡ 3 → IsTrue (W.has_failed w.new) }
     ensures write_told { IsTrue (W.has_failed w.new) → result ≡ 3 }
 
-    // Help or the version is written if the words ask for it, and other words are refused.
+    // Help text and version are written if the words ask for them. Words that ask for nothing are refused.
     ensures help_status { asked_by (texts_of words.now) ≡ Option.Some Asked.Help → (result ≡ 0) ⊎ (result ≡ 3) }
     ensures helped { asked_by (texts_of words.now) ≡ Option.Some Asked.Help → result ≡ 0
         → Appends (W.contents w.old) (W.contents w.new) HELP.now }
@@ -68,7 +68,7 @@ fn write_file<W: Sink>(alloc: Global, form: Form, w: &mut W) -> Result<(), Trace
 {
     match file(alloc, form) {
         Ok(text) => write_all(w, text.as_slice()),
-        // the controller's circuit is complete, so the only fault is that memory ran out
+        // the controller's circuit lacks no gate, so only an allocation can fail
         Err(_) => Err(TraceFault::Memory),
     }
 }

@@ -1,4 +1,4 @@
-//! The files of the controller's circuit.
+//! The file of the controller's circuit.
 ghost use Rattle.std.specs.Prelude.{◌≡◌, ◌≤◌, length, IfOk};
 ghost use Rattle.cangates.specs.Files.{IsFile, text_in};
 
@@ -10,7 +10,7 @@ use can_gates::{
 use can_gates_controller::controller_circuit;
 use std::alloc::Global;
 
-/// Returns the text of the file in this form.
+/// The text of the file in this form.
 pub(crate) fn file(alloc: Global, form: Form) -> Result<Vec<u8>, CircuitFault>
     ensures { IfOk result (λ r. IsFile form r.items) }
 {
@@ -27,8 +27,7 @@ pub(crate) fn file(alloc: Global, form: Form) -> Result<Vec<u8>, CircuitFault>
     Ok(made)
 }
 
-/// Returns the text, in this form and with these names, of a circuit whose last inputs are the contents of these
-/// registers.
+/// The text of a circuit in this form, with these names. Its last inputs are the outputs of these registers.
 fn text(
     alloc: Global,
     form: Form,

@@ -10,8 +10,8 @@ ghost use Rattle.cangates.specs.Ports.{IsNamed, input_words, literals_of, output
 
 use can_gates::{Names, Word};
 
-/// The literals of the words, one word after another, are the inputs, registers and outputs of the controller, in the
-/// order of the file. This law has an empty body.
+/// The literals of all words, one after another, are the inputs, registers and outputs in the order of a file. There
+/// are 107 inputs, 277 registers and 124 outputs. It does nothing.
 pub fn words_are_the_ports()
     ensures inputs { (k : InputPorts) → literals_of (input_words k) ≡ input_list k }
     ensures registers { (k : Registers) → literals_of (register_words k) ≡ register_list k }
@@ -21,7 +21,7 @@ pub fn words_are_the_ports()
     ensures outputs_fit { (k : OutputPorts) → length (output_list k) ≡ 124 }
 {}
 
-/// Returns the names of the controller's ports and registers, in the order of its circuit.
+/// The names of the controller's ports and registers, in the order of its circuit.
 pub(crate) fn names() -> Names<'static>
     ensures named { (d : Design) → IsNamed result d }
     ensures readable { AreReadable result }

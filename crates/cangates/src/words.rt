@@ -6,11 +6,11 @@ ghost use Rattle.cangates.specs.Words.{asked_by, asked_word, asked_words};
 /// The form of a file.
 #[derive(Clone, Copy)]
 pub enum Form {
-    /// A Verilog-2001 module.
+    /// A module in Verilog-2001.
     Verilog,
-    /// AIGER's ASCII format.
+    /// The ASCII format of AIGER.
     Ascii,
-    /// AIGER's binary format.
+    /// The binary format of AIGER.
     Binary,
 }
 
@@ -25,8 +25,8 @@ pub enum Asked {
     Version,
 }
 
-/// Returns what the words ask for, or `None` if they are not a valid use of the program. The first word is the
-/// program's name. The others ask for a file, the help text (also as an option after a subcommand) or the version.
+/// Returns what the words ask for; the first one is the program's name. They name a file, or ask for the help text or
+/// the version. An option after a subcommand may ask for AIGER's binary format, or for help. Other words return `None`.
 pub fn read_words(words: &[String]) -> Option<Asked>
     ensures { result ≡ asked_by (texts_of words.now) }
 {
@@ -37,7 +37,7 @@ pub fn read_words(words: &[String]) -> Option<Asked>
     }
 }
 
-/// Returns what one word asks for.
+/// What one word asks for.
 fn read_word(word: &str) -> Option<Asked>
     ensures { result ≡ asked_word word.now }
 {
@@ -50,7 +50,7 @@ fn read_word(word: &str) -> Option<Asked>
     }
 }
 
-/// Returns what a subcommand and an option after it ask for.
+/// What a subcommand and an option after it ask for.
 fn read_option(word: &str, option: &str) -> Option<Asked>
     ensures { result ≡ asked_words word.now option.now }
 {

@@ -1,4 +1,4 @@
--- Texts that are appended one behind another, as the last append tells them.
+-- Texts that are appended one after another, as the contract of the last append states them.
 use Rattle.std.proofs.Common.{ℕ, ◌≡◌, List, ◌++◌, Result, Ok, Err, OnOk, ap, ◌∙◌}
 use Rattle.std.proofs.lemmas.List.{append_assoc}
 

@@ -1,4 +1,4 @@
--- A document that has to have no list of transcripts.
+-- A document that must have no list of transcripts.
 use Rattle.std.proofs.Common.{ℕ, ◌≡◌, List, Option, Some, None, refl, inl, inr}
 use Rattle.std.specs.Prelude.{option_map}
 use Rattle.toml.specs.Data.{Data}
@@ -21,7 +21,7 @@ wrong-alone wrong bytes d is unmet = inr (d, is, unmet-first wrong (document_dem
 pub listed : (bytes : List ℕ) (d : Data) → IsDocument bytes d → AllMet (document_demands d) → ¬ HasCasesAlone d → IsWrongKitField cases_alone_demands field.Transcripts bytes
 listed bytes d is met some = inr (d, is, unmet-later field.Transcripts (document_demands d) (no_list d) met (inl (refl, some)))
 
--- what is nothing when it is mapped was nothing
+-- if mapping an option gives none, it was none
 pub none-mapped : {A : Type 0} {B : Type 0} (f : A → B) (found : Option A) (said : Option B) → option_map f found ≡ said → said ≡ None → found ≡ None
 none-mapped f None said is none = refl
 none-mapped f (Some x) said is none = absurd (cc)

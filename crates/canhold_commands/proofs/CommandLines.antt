@@ -1,4 +1,4 @@
--- Lines that ask for something: how long they are, and what their digits say.
+-- Lines that are commands: their lengths, and what their digits mean.
 use Rattle.std.proofs.Common.{◌≡◌, ℕ, ◌≤◌, ◌<◌, ◌==◌, true, false, ◌||◌, ◌≢◌, Bor, Some, None, MatchOption, Result, Ok, Err, OnOk, List, [], ◌∷◌, ◌++◌, length, map, take, Option, ◌⊎◌, refl, ap, sym, subst, ◌∙◌, inl, inr, codes, arith, eqb-true}
 use Rattle.std.proofs.lemmas.List.{length-append, length-map, length-take, take_all}
 use Rattle.std.proofs.lemmas.Bool.{and_from, and_parts, cases_lt, false≢true, or_cases}
@@ -51,7 +51,7 @@ command-short line ends is = omega (arith, ap length is)
 
 -- ---- cases
 
--- what stands before the ending behind `case ` is the name
+-- what is between `case ` and the ending is the name
 pub name-from : (line ending rest : List ℕ) (r : Option (Bor (List ℕ))) → line ≡ codes "case " ++ rest → MatchOption r ((front : List ℕ) → rest ≢ front ++ ending) (λ x. rest ≡ x.now ++ ending)
     → MatchOption r ((name : List ℕ) → line ≢ codes "case " ++ (name ++ ending)) (λ name. line ≡ codes "case " ++ (name.now ++ ending))
 name-from line ending rest None starts none = λ name is.
@@ -89,26 +89,26 @@ play_found line digits starts some few are = record {
   text = starts ∙ ap (λ t. codes "play " ++ t) (sym (digits-said digits are));
 }
 
--- ---- a line asks for one thing, or for none
+-- ---- a line is one command, or none
 
--- what a line asks for is done
+-- a command is executed
 pub step-done : {E : Type 0} (r : Result (Unit {0}) E) (line : List ℕ) (before : Option PortState) (cleared out : List ℕ) (after : Option PortState) (command : Command)
     → IsCommandLine line command → cleared ≡ [] → OnOk r (out ≡ cleared ++ answer_to command before) → OnOk r (after ≡ behind_command command before) → OnOk r (IsAnswered line before out after)
 step-done (Ok done) line before cleared out after command asked empty text port =
     inl (record { command = command; asked = asked; text = text ∙ ap (λ t. t ++ answer_to command before) empty; port = port })
 step-done (Err e) line before cleared out after command asked empty text port = tt
 
--- ---- the kept front of a line
+-- ---- the kept prefix of a line
 
--- a front that is shorter than what is kept is the line
+-- a prefix that is shorter than what is kept is the line
 pub line_from_front : (line : List ℕ) → length (take 4102 line) ≤ 4101 → take 4102 line ≡ line
 line_from_front line short = take_all 4102 line (omega (arith, length-take 4102 line))
 
--- the line ends the adapter where its front does
+-- the line is `quit` if its kept prefix is
 pub quit_from_front : (line : List ℕ) → take 4102 line ≡ quit_line → line ≡ quit_line
 quit_from_front line is = sym (line_from_front line (omega (arith, ap length is))) ∙ is
 
--- a line is answered as its front is
+-- a line has the reply of its prefix
 pub IsAnswered-front : (line : List ℕ) (before : Option PortState) (answer : List ℕ) (after : Option PortState) → IsAnswered (take 4102 line) before answer after → IsAnswered line before answer after
 IsAnswered-front line before answer after (inl done) =
     subst (λ l. IsAnswered l before answer after) (line_from_front line (command-short (take 4102 line) done.command done.asked)) (inl done)

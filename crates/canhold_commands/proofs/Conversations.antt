@@ -1,4 +1,4 @@
--- A conversation: the lines that were read and the answers that were written, and how it ends.
+-- A conversation: the lines that were read and the replies that were written, and how it ends.
 use Rattle.std.proofs.Common.{◌≡◌, ℕ, ◌+◌, Bool, true, false, List, [], ◌∷◌, ◌++◌, Option, None, Result, Ok, Err, refl, sym, ap, subst, ◌∙◌, append_assoc, append-nil, inl, inr}
 use Rattle.std.proofs.KnownBytes.{Consumes-nil, Appends-trans}
 use Rattle.std.specs.Io.KnownBytes.{Consumes, Appends}
@@ -22,17 +22,17 @@ use Rattle.canhold_commands.proofs.Running.{IsConversation-none, IsConversation-
 -- ---- line by line
 
 module _ (before after held holds : Option (List ℕ)) where
-  -- the greeting and the answers to the lines that were read are with the writer
+  -- the writer has the greeting and the replies to the lines that were read
   pub record IsTalking (port : Option PortState) (unread : List ℕ) (taken : ℕ) : Type 0 where
     pub number : ℕ
     pub answering : Answering (IsConversation port) before after held holds unread [] taken number
 
-  -- the same, and one more line was read
+  -- this, and one more line was read
   pub record HasRead (port : Option PortState) (found : Bool) (line unread : List ℕ) (taken : ℕ) : Type 0 where
     pub number : ℕ
     pub at : AtLine (IsConversation port) before after held holds found line unread [] taken number
 
--- a line is read where nothing waits, and what did is written
+-- a line is read if nothing waits to be written, and what waited is written
 pub HasRead-next : (before between after held holds holds_now : Option (List ℕ)) (port : Option PortState) (found : Bool) (kept : ℕ) (old new : LineReader kept) (waiting : List ℕ)
     → IsTalking before between held holds port old.inbox.unread old.inbox.taken → (reads : ReadsLine found between after kept old new) → PassesOn holds holds_now [] waiting []
     → HasRead before after held holds_now port found reads.line new.inbox.unread new.inbox.taken
@@ -45,7 +45,7 @@ HasRead-next before between after held holds holds_now port found kept old new w
     }
 
 module _ (before after held holds : Option (List ℕ)) (port : Option PortState) (line unread : List ℕ) (taken : ℕ) where
-  -- the line was answered
+  -- the line has its reply
   pub IsTalking-answered : (holds_now : Option (List ℕ)) (answer : List ℕ) (port_now : Option PortState) → HasRead before after held holds port true line unread taken
       → IsAnswered line port answer port_now → Appends holds holds_now answer → IsTalking before after held holds_now port_now unread taken
   IsTalking-answered holds_now answer port_now read step took =
@@ -61,7 +61,7 @@ module _ (before after held holds : Option (List ℕ)) (port : Option PortState)
   -- ---- what has been written
 
   module _ (read : HasRead before after held holds port true line unread taken) where
-    -- the lines before this one are answered
+    -- the lines before this one have their replies
     answered_before : AnswersFront read.at.input read.at.output (line ∷ ended_lines unread)
     answered_before = record {
       lines = read.at.lines;
@@ -93,7 +93,7 @@ module _ (before after held holds : Option (List ℕ)) (port : Option PortState)
         )
 
   module _ (read : HasRead before after held holds port false line unread taken) where
-    -- all ended lines are answered
+    -- all complete lines have their replies
     pub PlaysEnded-last : PlaysEnded read.at.input read.at.output
     PlaysEnded-last = record {
       lines = read.at.lines;
@@ -104,11 +104,11 @@ module _ (before after held holds : Option (List ℕ)) (port : Option PortState)
     pub PlaysAll-last : PlaysAll read.at.input read.at.output
     PlaysAll-last = ([], PlaysEnded-last, tt)
 
--- nothing was read, and the writer took a front of the greeting
+-- nothing was read, and the writer took a prefix of the greeting
 pub BeginsPlaying-greeting : (took left : List ℕ) → greeting ≡ took ++ left → BeginsPlaying [] took
 BeginsPlaying-greeting took left split = (left, ([], record { lines = []; split = refl; answers = (None, subst (IsConversation None []) split IsConversation-none) }))
 
--- where the writer took a front of nothing, it took nothing
+-- if the writer took a prefix of nothing, it took nothing
 took_nothing : (took left : List ℕ) → [] ≡ took ++ left → took ≡ []
 took_nothing [] left split = refl
 took_nothing (byte ∷ took) left split = absurd (let no : byte ∷ (took ++ left) ≡ [] = sym split in cc)
@@ -133,7 +133,7 @@ module _ {R W : Type 0} (remaining : R → Option (List ℕ)) (r_before r : R) (
     abbrev Reads : Bool → Type 0
     Reads found = HasRead (remaining r_before) (remaining r) (contents w_before) (contents w) port found line unread taken
 
-    -- the line ends the adapter
+    -- the line is `quit`
     pub Told-quit : Reads true → line ≡ quit_line → Ends (Ok tt) w
     Told-quit read is = record {
       input = read.at.input;
@@ -153,7 +153,7 @@ module _ {R W : Type 0} (remaining : R → Option (List ℕ)) (r_before r : R) (
       related = PlaysAll-last (remaining r_before) (remaining r) (contents w_before) (contents w) port line unread taken read;
     }
 
-    -- memory ran out
+    -- an allocation failed
     pub Told-unanswered : Reads true → Ends (Err Memory) w
     Told-unanswered read = record {
       input = read.at.input;
@@ -163,7 +163,7 @@ module _ {R W : Type 0} (remaining : R → Option (List ℕ)) (r_before r : R) (
       related = PlaysFront-unanswered (remaining r_before) (remaining r) (contents w_before) (contents w) port line unread taken read;
     }
 
-    -- the answer was not written
+    -- the reply was not written
     pub Told-unwritten : (w_now : W) (answer : List ℕ) (port_now : Option PortState) → Reads true → IsAnswered line port answer port_now → TakesFront (contents w) (contents w_now) answer
         → Ends (Err Write) w_now
     Told-unwritten w_now answer port_now read step front = record {
@@ -196,7 +196,7 @@ module _ {R W : Type 0} (remaining : R → Option (List ℕ)) (r_before r : R) (
         by_fault (ScenarioField wrong) stops = absurd stops
         by_fault Memory stops = absurd stops
 
-  -- the reader stopped, or the writer failed, before a line was read whole
+  -- the reader stopped, or the writer failed, before a whole line was read
   pub Told-unread : (w w_now : W) (port : Option PortState) (kept : ℕ) (old new : LineReader kept) (waiting : List ℕ) (between : Option (List ℕ)) (e : TraceFault) (failed write_failed : Bool)
       → IsTalking (remaining r_before) between (contents w_before) (contents w) port old.inbox.unread old.inbox.taken → ReadsLine false between (remaining r) kept old new
       → write_failed ≡ is_write e → StopsTurn e failed new.inbox.taken → Flushes write_failed (contents w) (contents w_now) [] waiting → Ends (Err e) w_now

@@ -1,4 +1,4 @@
--- No more verdicts are counted than there are, and no fewer.
+-- The number of counted verdicts is that of the transcripts.
 use Rattle.std.proofs.Common.{◌≡◌, ℕ, ◌+◌, ◌≤◌, List, [], ◌∷◌, length, ap, sym, subst, arith}
 use Rattle.can_conform.specs.declared.judging.Verdict.{Verdict}
 use Rattle.can_conform.specs.declared.judging.Verdict.TheVariants.{Pass, Fail}
@@ -8,7 +8,7 @@ use Rattle.canhold_commands.specs.declared.tally.Tally.{Tally}
 use Rattle.canhold_commands.specs.Counts.{cases_in}
 use Rattle.canhold_commands.specs.Judgements.{with_verdict, AddVerdicts, Lines}
 
--- at most so many verdicts of each kind are counted
+-- at most this number of verdicts of each kind is counted
 abbrev pub HasAtMost : ℕ → Tally → Type 0
 HasAtMost n tally = (tally.passed ≤ n) × (tally.failed ≤ n)
 
@@ -23,7 +23,7 @@ one-counted : (before : Tally) (verdict : Verdict) → cases_in (with_verdict be
 one-counted before Pass = omega arith
 one-counted before (Fail failure) = omega arith
 
--- behind the verdicts on these transcripts so many more are counted
+-- after the verdicts on these transcripts, their number more are counted
 pub each-counted : (cases : List Case) (transcripts : List Told) (before after : Lines) → AddVerdicts cases transcripts before after
     → cases_in after.tally ≡ cases_in before.tally + length transcripts
 each-counted cases [] before after same =

@@ -15,7 +15,7 @@ use Rattle.kit_documents.specs.declared.transcripts.told.Told.{Told}
 use Rattle.kit_documents.specs.Transcripts.{place_where, transcripts_demands, SaysTranscript}
 use Rattle.canhold_commands.specs.Documents.{cases_of, document_demands, document_top_demands, transcripts_of}
 
--- ---- what is demanded
+-- ---- demands
 
 abbrev those_of_transcripts : Data → Demands KitField
 those_of_transcripts d = transcripts_demands (cases_of d) (transcripts_of d)
@@ -33,14 +33,14 @@ module _ (d : Data) (top : AllMet (document_top_demands d)) where
   pub document-met : AllMet (cases_demands (cases_of d)) → AllMet (those_of_transcripts d) → AllMet (document_demands d)
   document-met cases transcripts = met-followed (document_top_demands d) (behind_top d) top (met-followed (cases_demands (cases_of d)) (those_of_transcripts d) cases transcripts)
 
--- ---- which case a transcript is of
+-- ---- the case of a transcript
 
--- the place of a case that a field names is one of these tables'
+-- the number of a case that a field names is that of one of these tables
 place-within : (tables : List Data) (place : ℕ) (field : Option Data) → IsRequired (IsText (λ name. place_where case_name name tables ≡ Some place)) field → place < length tables
 place-within tables place None said = absurd said
 place-within tables place (Some d) (name, is, at) = (position-Some (λ one. same_key name (case_name one)) tables place (table no_members) at).0
 
--- each transcript is of one of the cases
+-- each transcript belongs to one of the cases
 pub cases-known : (tables : List Data) (cases : List Case) (ds : List Data) (transcripts : List Told) → ArePaired SaysCase tables cases → ArePaired (SaysTranscript tables) ds transcripts
     → All (λ one. one.case < length cases) transcripts
 cases-known tables cases [] [] are pairs = All-nil (λ one. one.case < length cases)

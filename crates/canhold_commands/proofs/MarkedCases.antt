@@ -1,4 +1,4 @@
--- A case is marked exactly where a transcript is of it.
+-- A case is marked if and only if a transcript belongs to it.
 use Rattle.std.specs.List.{count_by, range_with_len}
 use Rattle.std.proofs.Common.{◌≡◌, ◌≢◌, ℕ, ◌+◌, ◌<◌, ◌==◌, Bool, cond, true, false, ◌||◌, List, [], ◌∷◌, ◌++◌, length, get_or, map, replicate, set, refl, sym, ap, ◌∙◌, arith}
 use Rattle.std.proofs.Math.Bool.{or-false, or-true}
@@ -37,7 +37,7 @@ marked-at (told ∷ transcripts) marks k within =
     let longer : k < length (set marks told.case true) = omega (arith, length-set marks told.case true) in
     marked-at transcripts (set marks told.case true) k longer ∙ set-mark marks told.case k (has_one transcripts k) within
 
--- of marks that stood nowhere
+-- of marks none of which was set
 pub marked-all : (transcripts : List Told) (n : ℕ) → with_marks transcripts (replicate n false) ≡ map (has_one transcripts) (range_with_len 0 n)
 marked-all transcripts n =
     let marks = with_marks transcripts (replicate n false) in

@@ -1,4 +1,4 @@
--- Rows that were worked out by hand.
+-- Hand-computed test vectors.
 use Rattle.std.proofs.Common.{◌≡◌, ℕ, List, [], ◌∷◌, map, refl}
 use Rattle.std.specs.Prelude.{count_by, not}
 use Rattle.std.specs.List.{range_with_len}
@@ -10,7 +10,7 @@ use Rattle.canhold_commands.specs.Judgements.{has_one}
 abbrev all_told : Transcript → List ℕ → List Told
 all_told transcript places = map (λ place. record { case = place; transcript = transcript }) places
 
--- how many of so many cases have no transcript then
+-- the number of cases without a transcript then
 abbrev without : Transcript → List ℕ → ℕ → ℕ
 without transcript places cases = count_by (λ place. not (has_one (all_told transcript places) place)) (range_with_len 0 cases)
 

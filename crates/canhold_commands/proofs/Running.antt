@@ -1,4 +1,4 @@
--- Lines that are answered one behind another.
+-- Replies to lines, one after another.
 use Rattle.std.proofs.Common.{◌≡◌, ℕ, ◌+◌, ◌-◌, ◌^◌, ◌<◌, true, List, [], ◌∷◌, ◌++◌, length, Option, None, refl, ap, sym, subst, ◌∙◌, append_assoc, append-nil, arith}
 use Rattle.std.proofs.lemmas.List.{length-append}
 use Rattle.can_node.specs.Ports.{PortState}
@@ -8,7 +8,7 @@ use Rattle.can_stream.specs.declared.lines.LineReader.{LineReader}
 use Rattle.canhold_commands.specs.Adapters.{AreAnswered, IsAnswered}
 use Rattle.canhold_commands.specs.Plays.{IsConversation, greeting}
 
--- one more line is answered
+-- one more line has its reply
 pub AreAnswered-push : (before : Option PortState) (lines : List (List ℕ)) (answers : List ℕ) (between : Option PortState) (line answer : List ℕ) (after : Option PortState)
     → AreAnswered before lines answers between → IsAnswered line between answer after → AreAnswered before (lines ++ line ∷ []) (answers ++ answer) after
 AreAnswered-push before [] answers between line answer after run step =
@@ -19,7 +19,7 @@ AreAnswered-push before (first ∷ lines) answers between line answer after run 
     let facts = run.1.1.1 in
     (run.0, (rest ++ answer, (mid, (facts.0, (ap (λ t. t ++ answer) facts.1.0 ∙ append_assoc run.0 rest answer, AreAnswered-push mid lines rest between line answer after facts.1.1 step)))))
 
--- no line is answered yet
+-- no line has its reply yet
 pub IsConversation-none : IsConversation None [] greeting
 IsConversation-none = record { answers = []; run = (refl, refl); text = sym (append-nil greeting) }
 
@@ -31,7 +31,7 @@ IsConversation-push between lines output line answer after so_far step = record 
   text = ap (λ t. t ++ answer) so_far.text ∙ append_assoc greeting so_far.answers answer;
 }
 
--- where nothing waits, nothing waits behind a flush
+-- if nothing waits to be written, nothing does after a flush
 pub none_waits : (held holds : Option (List ℕ)) (waiting : List ℕ) → PassesOn held holds [] waiting [] → waiting ≡ []
 none_waits held holds waiting passes = from_nil passes.taken waiting (sym passes.same)
   where

@@ -1,4 +1,4 @@
--- The reference as an adapter: what it answers to a line, and how it stands behind it. (docs/CONFORMANCE.md)
+-- The reference as an adapter: its reply to a line, and its port after it. (docs/CONFORMANCE.md)
 use Rattle.std.specs.Prelude.{ℕ, ◌≡◌, ◌≢◌, ◌⊎◌, ◌+◌, List, [], ◌∷◌, ◌++◌, map, Option, Some, None, option_map, codes, decimal}
 use Rattle.can_frame.specs.declared.level.Level.{Level}
 use Rattle.can_fault.specs.Counters.{state_of}
@@ -12,9 +12,9 @@ use Rattle.can_stream.specs.Lines.{line_end}
 use Rattle.kit_documents.specs.Events.{event_text}
 use Rattle.canhold_commands.specs.Commands.{Command, begins, offers, wishes, plays, ends, IsCommandLine, quit_line}
 
--- ---- bit times one behind another
+-- ---- bit times
 
--- the port behind them
+-- the port after these bit times, one after another
 abbrev pub behind_levels : List TesterLevel → PortState → PortState
 behind_levels [] p = p
 behind_levels (x ∷ xs) p = behind_levels xs (met x p)
@@ -29,38 +29,38 @@ abbrev pub event_line : ℕ → Option Event → List ℕ
 event_line place None = []
 event_line place (Some event) = codes "event " ++ (decimal place ++ (codes " " ++ (event_text event ++ line_end)))
 
--- the lines of all events, where the first of the bit times has this place
+-- The lines of all events. The first of the bit times has this place.
 abbrev pub event_lines : ℕ → List TesterLevel → PortState → List ℕ
 event_lines place [] p = []
 event_lines place (x ∷ xs) p = event_line place (told_event x p) ++ event_lines (place + 1) xs (met x p)
 
 -- ---- one line
 
--- the events, and then the levels
+-- the reply to `play`: the lines of the events, and then that of the driven levels
 abbrev pub play_answer : List TesterLevel → PortState → List ℕ
 play_answer xs p = event_lines 0 xs p ++ (codes "drove " ++ (map digit_of (drove_in xs p) ++ line_end))
 
--- the state and both counters
+-- the reply to `end`: the state, TEC and REC
 abbrev pub state_answer : PortState → List ℕ
 state_answer p =
     codes "state " ++ (state_word (state_of p.mac.counters)
     ++ (codes " " ++ (decimal p.mac.counters.tec
     ++ (codes " " ++ (decimal p.mac.counters.rec ++ line_end)))))
 
--- what answers a line that wants a case where none has begun
+-- the reply to a line that needs a case before one has begun
 abbrev pub no_case_answer : List ℕ
 no_case_answer = codes "error no case\n"
 
--- what answers a line that asks for nothing that there is
+-- the reply to a line that is not in the protocol
 abbrev pub no_line_answer : List ℕ
 no_line_answer = codes "error no line of the protocol\n"
 
--- what answers a line that wants a case
+-- The reply to a line that needs a case: one for its port, if a case has begun.
 abbrev pub if_begun : Option PortState → (PortState → List ℕ) → List ℕ
 if_begun None answer = no_case_answer
 if_begun (Some p) answer = answer p
 
--- what answers what a line asks for, where the port of a case that has begun is this
+-- The reply to a command, with this port if a case has begun.
 abbrev pub answer_to : Command → Option PortState → List ℕ
 answer_to (begins start) p = codes "ready\n"
 answer_to (offers f) p = if_begun p (λ port. [])
@@ -68,7 +68,7 @@ answer_to (wishes n) p = if_begun p (λ port. [])
 answer_to (plays levels) p = if_begun p (play_answer levels)
 answer_to ends p = if_begun p state_answer
 
--- the port behind it
+-- The port after a command. Only `case` begins one.
 abbrev pub behind_command : Command → Option PortState → Option PortState
 behind_command (begins start) p = Some (started start)
 behind_command (offers f) p = option_map (with_offer f) p
@@ -76,27 +76,27 @@ behind_command (wishes n) p = option_map (wished n) p
 behind_command (plays levels) p = option_map (behind_levels levels) p
 behind_command ends p = p
 
--- the line asks for something, which is answered
+-- The line is a command: it has the reply to that command, and the port is the one after it.
 pub record IsDone (line : List ℕ) (before : Option PortState) (answer : List ℕ) (after : Option PortState) : Type 0 where
   pub command : Command
   pub asked : IsCommandLine line command
   pub text : answer ≡ answer_to command before
   pub port : after ≡ behind_command command before
 
--- it asks for nothing that there is
+-- The line is neither a command nor `quit`: it has the reply for that, and the port is unchanged.
 pub record IsRefused (line : List ℕ) (before : Option PortState) (answer : List ℕ) (after : Option PortState) : Type 0 where
   pub unknown : (command : Command) → IsCommandLine line command → ⊥
   pub no_quit : line ≢ quit_line
   pub text : answer ≡ no_line_answer
   pub port : after ≡ before
 
--- a line is answered so
+-- A line other than `quit` has this reply, and this port after it.
 abbrev pub IsAnswered : List ℕ → Option PortState → List ℕ → Option PortState → Type 0
 IsAnswered line before answer after = IsDone line before answer after ⊎ IsRefused line before answer after
 
 -- ---- line by line
 
--- the answers to these lines, one behind another
+-- The replies to these lines, one after another.
 abbrev pub AreAnswered : Option PortState → List (List ℕ) → List ℕ → Option PortState → Type 0
 AreAnswered before [] answers after = (answers ≡ []) × (after ≡ before)
 AreAnswered before (line ∷ lines) answers after =

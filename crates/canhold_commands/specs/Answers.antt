@@ -1,4 +1,4 @@
--- What each subcommand has written for what it read, for each outcome. (docs/CONFORMANCE.md, "Line by line",
+-- The output of each subcommand for its input, for each outcome. (docs/CONFORMANCE.md, "Line by line",
 -- "What is expected", "What is judged")
 use Rattle.std.specs.Prelude.{ℕ, ◌≡◌, ◌⊎◌, ◌==◌, if◌then◌else◌, List, Result, Ok, Err}
 use Rattle.toml.specs.Data.{Data}
@@ -21,9 +21,9 @@ use Rattle.canhold_commands.specs.declared.words.Chosen.TheVariants.{Play, Docum
 use Rattle.canhold_commands.specs.declared.words.Question.{Question}
 use Rattle.canhold_commands.specs.declared.words.Question.TheVariants.{Expect, Judge}
 
--- ---- lines that are played
+-- ---- lines of a runner
 
--- the reference has played the runner's lines
+-- The reference has played the runner's lines, with this outcome.
 abbrev pub PlaysLines : Result (Unit {0}) CanholdFault → List ℕ → List ℕ → Type 0
 PlaysLines (Ok done) input output = Plays (Ok done) input output
 PlaysLines (Err (Stream fault)) input output = Plays (Err fault) input output
@@ -31,37 +31,37 @@ PlaysLines (Err (Field wrong)) input output = ⊥
 PlaysLines (Err TranscriptsDiffer) input output = ⊥
 PlaysLines (Err NothingJudged) input output = ⊥
 
--- ---- documents that are answered
+-- ---- documents
 
--- what is found by verdicts of this count: there are none, none failed, or some did
+-- The result for verdicts of this count: there are none, none failed, or some failed.
 abbrev pub finding_of : Tally → Finding
 finding_of tally = if cases_in tally == 0 then Nothing else (if tally.failed == 0 then Agree else Differ)
 
--- the output is the whole answer to a document in which this is found
+-- The output is complete for a document, which has this result.
 abbrev pub AnswersSo : Question → Finding → List ℕ → List ℕ → Type 0
 AnswersSo Expect finding input output = IsExpected input output × (finding ≡ Agree)
 AnswersSo Judge finding input output =
     (tally : Tally) × IsJudged input output tally × (finding ≡ finding_of tally)
 
--- it is, whatever is found
+-- The output is complete for a document, whatever its result.
 abbrev pub Answers : Question → List ℕ → List ℕ → Type 0
 Answers question input output = (finding : Finding) × AnswersSo question finding input output
 
--- what is demanded of the document
+-- the demands on the document
 abbrev pub demands_of : Question → Data → Demands KitField
 demands_of Expect = cases_alone_demands
 demands_of Judge = document_demands
 
--- the document is refused for this field, and nothing is written
+-- The document is refused for this field, and nothing is written.
 abbrev pub RefusesDocument : Question → KitField → List ℕ → List ℕ → Type 0
 RefusesDocument question wrong input output =
     IsWrongKitField (demands_of question) wrong input × WritesNothing input output
 
--- a field is wrong, or memory ran out
+-- A field is invalid, or an allocation failed.
 abbrev pub IsKitFault : CanholdFault → Type 0
 IsKitFault fault = ((wrong : KitField) × (fault ≡ Field wrong)) ⊎ (fault ≡ Stream Memory)
 
--- the document has been answered
+-- The output for a document, for each outcome.
 abbrev pub AnswersDocument : Question → Result (Unit {0}) CanholdFault → List ℕ → List ℕ → Type 0
 AnswersDocument question (Ok done) = AnswersSo question Agree
 AnswersDocument question (Err (Field wrong)) = RefusesDocument question wrong
@@ -72,7 +72,7 @@ AnswersDocument question (Err (Stream Write)) = WritesBeginning (Answers questio
 AnswersDocument question (Err (Stream Memory)) = WritesNothing
 AnswersDocument question (Err (Stream _)) = λ input output. ⊥
 
--- what is written where the subcommand ends so
+-- The output of a subcommand for its input, for this outcome.
 abbrev pub DoesChosen : Chosen → Result (Unit {0}) CanholdFault → List ℕ → List ℕ → Type 0
 DoesChosen Play = PlaysLines
 DoesChosen (Document question) = AnswersDocument question

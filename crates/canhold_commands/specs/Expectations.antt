@@ -1,4 +1,4 @@
--- What `canhold expect` writes: the document, and behind it what the reference does in each of its cases.
+-- What `canhold expect` writes: the document, followed by the reference's transcript of each case.
 -- (docs/CONFORMANCE.md, "What is expected")
 use Rattle.std.specs.Prelude.{ℕ, ◌≡◌, codes, None, List, [], ◌∷◌, ◌++◌}
 use Rattle.std.specs.String.{string_bytes}
@@ -14,30 +14,30 @@ use Rattle.canhold_commands.specs.Transcripts.{transcript_text}
 use Rattle.canhold_commands.specs.declared.document.Document.{Document}
 use Rattle.canhold_commands.specs.Documents.{document_demands, SaysDocument}
 
--- the list of transcripts is left out: behind an empty one there could be no tables either
+-- The list of transcripts is left out. No tables could follow an empty one.
 abbrev pub HasCasesAlone : Data → Type 0
 HasCasesAlone d = named (codes "transcript") d ≡ None
 
--- a kit document without that list
+-- The demands on a kit document, and that it has no such list.
 abbrev pub cases_alone_demands : Data → Demands KitField
 cases_alone_demands d = followed (document_demands d) (demand field.Transcripts (HasCasesAlone d) no_demands)
 
--- the bytes are this kit document, and it has no such list
+-- The bytes are this kit document, and it has no such list.
 abbrev pub IsCasesText : List ℕ → Document → Type 0
 IsCasesText bytes document = (d : Data) × IsDocument bytes d × SaysDocument d document × HasCasesAlone d
 
--- behind these bytes the table of the one transcript that tells all of the case
+-- These bytes are followed by the table of the one complete transcript of the case.
 pub record AddsTable (c : Case) (before after : List ℕ) : Type 0 where
   pub told : Transcript
   pub all_told : IsTranscript c.script told
   pub text : after ≡ before ++ transcript_text (string_bytes c.name) told
 
--- behind these bytes such a table for each case, one after another
+-- These bytes are followed by such a table for each case, in order.
 abbrev pub AddTables : List Case → List ℕ → List ℕ → Type 0
 AddTables [] before after = after ≡ before
 AddTables (c ∷ cases) before after = (between : List ℕ) × AddsTable c before between × AddTables cases between after
 
--- the bytes are a kit document without a list of transcripts, and behind them stand the tables
+-- The bytes are a kit document without a list of transcripts. The output is these bytes, followed by the tables.
 pub record IsExpected (bytes answer : List ℕ) : Type 0 where
   pub document : Document
   pub read : IsCasesText bytes document

@@ -20,16 +20,16 @@ use Rattle.canhold_commands.specs.Documents.{IsKitText}
 abbrev pub no_cases : Tally
 no_cases = record { passed = 0; failed = 0; void = 0; skipped = 0 }
 
--- one more has this verdict
+-- one more transcript has this verdict
 abbrev pub with_verdict : Tally → Verdict → Tally
 with_verdict tally Pass = record tally { passed = tally.passed + 1 }
 with_verdict tally (Fail failure) = record tally { failed = tally.failed + 1 }
 
--- one of the transcripts is of the case at this place
+-- One of the transcripts belongs to the case with this number.
 abbrev pub has_one : List Told → ℕ → Bool
 has_one transcripts place = list_any (λ told. told.case == place) transcripts
 
--- how many of the document's cases have no transcript
+-- the number of the document's cases without a transcript
 abbrev pub cases_without : Document → ℕ
 cases_without document =
     count_by (λ place. not (has_one document.transcripts.items place))
@@ -37,30 +37,31 @@ cases_without document =
 
 -- ---- the lines
 
--- what is written, and how many transcripts have which verdict
+-- The text that is written, and the number of transcripts with each verdict.
 pub record Lines : Type 0 where
   pub text : List ℕ
   pub tally : Tally
 
+-- this text and this count
 abbrev pub lines_with : List ℕ → Tally → Lines
 lines_with text tally = record { text = text; tally = tally }
 
--- behind these lines that of the verdict on this transcript of this case, which is counted
+-- These lines are followed by that of the verdict on this transcript of this case, which is counted.
 pub record AddsVerdict (case : Case) (told : Told) (before after : Lines) : Type 0 where
   pub verdict : Verdict
   pub judged : IsVerdict case.script told.transcript verdict
   pub line : after.text ≡ before.text ++ verdict_line (string_bytes case.name) case.choices.items verdict
   pub count : after.tally ≡ with_verdict before.tally verdict
 
--- behind these lines such a line for each transcript of one of these cases, one after another
+-- These lines are followed by such a line for each transcript, each of one of these cases, in order.
 abbrev pub AddVerdicts : List Case → List Told → Lines → Lines → Type 0
 AddVerdicts cases [] before after = after ≡ before
 AddVerdicts cases (told ∷ transcripts) before after =
     (case : Case) × (slice_get cases told.case ≡ Some case) × (between : Lines)
     × AddsVerdict case told before between × AddVerdicts cases transcripts between after
 
--- the answer is a line for each transcript of the document, and behind them this count of their verdicts, and of the
--- cases without a transcript
+-- The output is a line for each transcript of the document, followed by the count of their verdicts and of the cases
+-- without a transcript.
 pub record TellsVerdicts (document : Document) (answer : List ℕ) (tally : Tally) : Type 0 where
   pub lines : List ℕ
   pub verdicts : AddVerdicts document.cases.items document.transcripts.items
@@ -68,6 +69,6 @@ pub record TellsVerdicts (document : Document) (answer : List ℕ) (tally : Tall
   pub each : cases_in tally ≡ length document.transcripts.items
   pub all : answer ≡ lines ++ count_line tally (cases_without document)
 
--- the bytes are a kit document with this answer
+-- The bytes are a kit document with this output.
 abbrev pub IsJudged : (bytes answer : List ℕ) (tally : Tally) → Type 0
 IsJudged bytes answer tally = (document : Document) × IsKitText bytes document × TellsVerdicts document answer tally

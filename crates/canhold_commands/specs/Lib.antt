@@ -1,9 +1,9 @@
--- To believe: what public calls and laws promise is said in these words
+-- To believe: the definitions in which public calls and laws state what they promise
 -- of the command line
 pub mod Words
 pub mod Status
 pub mod Answers
--- of documents, and of what they are answered
+-- of documents, and of the output for them
 pub mod Documents
 pub mod Expectations
 pub mod Judgements
@@ -17,5 +17,5 @@ pub mod Counts
 pub mod Commands
 pub mod Adapters
 pub mod Plays
--- For private calls alone
+-- For private calls only
 pub mod Marks

@@ -11,7 +11,7 @@ use Rattle.can_conform.specs.declared.standing.Rule.TheVariants as rule
 use Rattle.can_conform.specs.declared.standing.Standing.{Standing}
 use Rattle.kit_documents.specs.Events.{event_text}
 
--- a phase, and how much of it has come
+-- the word for a phase, and its number, if it has one
 abbrev pub phase_text : PhaseName → List ℕ
 phase_text (phase.Joining n) = codes "joining " ++ decimal n
 phase_text phase.Idle = codes "idle"
@@ -29,6 +29,7 @@ phase_text (phase.Intermission n) = codes "intermission " ++ decimal n
 phase_text (phase.Suspend n) = codes "suspend " ++ decimal n
 phase_text (phase.BusOff n) = codes "bus-off " ++ decimal n
 
+-- the word for a part
 abbrev pub part_word : Part → List ℕ
 part_word part.Receiver = codes "receiver"
 part_word part.Sender = codes "sender"
@@ -54,12 +55,12 @@ rule_name rule.Delimiter = codes "Delimiter"
 rule_name rule.OverloadFlags = codes "Overload flags"
 rule_name rule.OwnOverloadFrames = codes "Own overload frames"
 
--- the last event with its time, if there was one
+-- The last event with its time; empty if there was none.
 abbrev pub since_text : Option (Timed Event) → List ℕ
 since_text None = []
 since_text (Some last) = codes "; since " ++ (event_text last.told ++ (codes " at " ++ decimal last.time))
 
--- where the reference stands
+-- the state of the reference: phase, part, rule and last event
 abbrev pub standing_text : Standing → List ℕ
 standing_text s =
     phase_text s.phase ++ (codes ", " ++ (part_word s.part ++ (codes "; " ++ (rule_name s.rule ++ since_text s.since))))

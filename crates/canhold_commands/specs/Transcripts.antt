@@ -10,19 +10,19 @@ use Rattle.kit_documents.specs.LevelTokens.{levels_text}
 use Rattle.can_fault.specs.Words.{state_word}
 use Rattle.kit_documents.specs.Events.{event_text}
 
--- what is left out has no text
+-- the text of a value; empty if it is left out
 abbrev pub where_told : {A : Type 0} → (A → List ℕ) → Option A → List ℕ
 where_told text None = []
 where_told text (Some x) = text x
 
 -- ---- lists
 
--- an element a line
+-- the elements, one a line
 abbrev pub element_lines : {A : Type 0} → (A → List ℕ) → List A → List ℕ
 element_lines text [] = []
 element_lines text (x ∷ xs) = codes "    [" ++ (text x ++ (codes "],\n" ++ element_lines text xs))
 
--- a list by its key: on one line where it is empty
+-- A list with its key. An empty list is on one line.
 abbrev pub list_text : {A : Type 0} → List ℕ → (A → List ℕ) → List A → List ℕ
 list_text key text [] = key ++ codes " = []\n"
 list_text key text (x ∷ xs) = key ++ (codes " = [\n" ++ (element_lines text (x ∷ xs) ++ codes "]\n"))
@@ -41,11 +41,11 @@ counters_element x = decimal x.time ++ (codes ", " ++ counters_elements x.told)
 
 -- ---- the table
 
--- an empty line, the table's own, the version of the format, and the name of the case in quotes
+-- An empty line, the header of the table, the version of the format, and the name of the case in quotes.
 unfoldable pub transcript_head : List ℕ → List ℕ
 transcript_head name = codes "\n[[transcript]]\nversion = 1\ncase = \"" ++ (name ++ codes "\"\n")
 
--- the levels as tokens in one string; no string where there are none
+-- The levels as tokens in one string; no string if there are none.
 abbrev pub drove_line : List Level → List ℕ
 drove_line levels =
     if length levels == 0 then codes "drove = []\n" else codes "drove = [\"" ++ (levels_text levels ++ codes "\"]\n")
@@ -56,7 +56,7 @@ end_line end =
     codes "end = [\"" ++ (state_word end.state
     ++ (codes "\", " ++ (counters_elements end.counters ++ codes "]\n")))
 
--- the transcript of the case of this name
+-- The table of a transcript of the case with this name.
 abbrev pub transcript_text : List ℕ → Transcript → List ℕ
 transcript_text name told =
     transcript_head name ++

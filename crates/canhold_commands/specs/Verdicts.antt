@@ -16,9 +16,9 @@ use Rattle.can_fault.specs.Words.{state_word}
 use Rattle.kit_documents.specs.Events.{event_text}
 use Rattle.canhold_commands.specs.Standings.{standing_text}
 
--- ---- what is told, and what ought to be
+-- ---- actual and expected values
 
--- this one, and not that one
+-- the actual value, and the expected one
 abbrev pub not_text : {A : Type 0} → (A → List ℕ) → A → A → List ℕ
 not_text text told ought = text told ++ (codes " not " ++ text ought)
 
@@ -26,12 +26,13 @@ not_text text told ought = text told ++ (codes " not " ++ text ought)
 abbrev pub level_text : Level → List ℕ
 level_text level = digit_of level ∷ []
 
--- a level and another one; too few levels; too many
+-- An actual and an expected level; too few levels; too many.
 abbrev pub level_difference : Option Level → Option Level → List ℕ
 level_difference None ought = codes "drove nothing"
 level_difference (Some told) None = codes "drove too long"
 level_difference (Some told) (Some ought) = codes "drove " ++ not_text level_text told ought
 
+-- an event, or `nothing`
 abbrev pub event_or_nothing : Option Event → List ℕ
 event_or_nothing None = codes "nothing"
 event_or_nothing (Some event) = event_text event
@@ -44,6 +45,7 @@ counters_text c = decimal c.transmit ++ (codes " " ++ decimal c.receive)
 abbrev pub ending_text : Ending → List ℕ
 ending_text end = state_word end.state ++ (codes " " ++ counters_text end.counters)
 
+-- the kind of a difference, with its actual and expected value
 abbrev pub difference_text : Difference → List ℕ
 difference_text (difference.Level told ought) = level_difference told ought
 difference_text (difference.Event told ought) = codes "told " ++ not_text event_or_nothing told ought
@@ -52,21 +54,22 @@ difference_text (difference.End told ought) = codes "end " ++ not_text ending_te
 
 -- ---- the line
 
--- the bit time, the difference, and where the reference stands before
+-- The bit time, the difference, and the reference's state before it.
 abbrev pub failure_text : Failure → List ℕ
 failure_text f =
     codes " at " ++ (decimal f.time ++ (codes ": " ++ (difference_text f.difference
     ++ (codes "; " ++ standing_text f.standing))))
 
--- the choices on which the case rests, in their order
+-- The choices that the expected result depends on, in their order.
 abbrev pub choices_text : List Choice → List ℕ
 choices_text [] = []
 choices_text (choice ∷ choices) = codes "; choice " ++ (choice_word choice ++ choices_text choices)
 
--- what is said of the case of this name, which rests on these choices
+-- The verdict on the case with this name and these choices.
 abbrev pub verdict_text : List ℕ → List Choice → Verdict → List ℕ
 verdict_text name choices Pass = codes "pass " ++ name
 verdict_text name choices (Fail failure) = codes "fail " ++ (name ++ (failure_text failure ++ choices_text choices))
 
+-- the line of a verdict
 abbrev pub verdict_line : List ℕ → List Choice → Verdict → List ℕ
 verdict_line name choices verdict = verdict_text name choices verdict ++ codes "\n"

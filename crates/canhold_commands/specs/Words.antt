@@ -8,7 +8,7 @@ use Rattle.canhold_commands.specs.declared.words.Chosen.{Chosen}
 use Rattle.canhold_commands.specs.declared.words.Chosen.TheVariants.{Play, Document}
 use Rattle.canhold_commands.specs.declared.words.Question.TheVariants.{Expect, Judge}
 
--- what one word asks for: it names a subcommand, or asks for help or for the version
+-- What one word asks for: it names a subcommand, or asks for the help text or the version.
 abbrev pub canhold_word : List ℕ → Option Asked
 canhold_word word =
     if bytes_eq word (codes "play") then Some (Run Play)
@@ -17,15 +17,15 @@ canhold_word word =
     else if is_help_word word then Some Help
     else (if is_version_word word then Some Version else None)
 
--- a word that names a subcommand
+-- whether a word names a subcommand
 abbrev pub is_subcommand : List ℕ → Bool
 is_subcommand word = bytes_eq word (codes "play") || (bytes_eq word (codes "expect") || bytes_eq word (codes "judge"))
 
--- what two words ask for: help, where the second asks for it behind a subcommand
+-- What two words ask for: the help text, if the first names a subcommand and the second is an option for help.
 abbrev pub canhold_words : List ℕ → List ℕ → Option Asked
 canhold_words word option = if is_subcommand word && is_help_option option then Some Help else None
 
--- what the words ask for: the program's name, whatever it is, and one word or two
+-- What the words ask for: the program's name, whatever it is, followed by one word or two.
 abbrev pub asked_of_canhold : List (List ℕ) → Option Asked
 asked_of_canhold [] = None
 asked_of_canhold (name ∷ []) = None
@@ -33,6 +33,6 @@ asked_of_canhold (name ∷ word ∷ []) = canhold_word word
 asked_of_canhold (name ∷ word ∷ option ∷ []) = canhold_words word option
 asked_of_canhold (name ∷ word ∷ option ∷ other ∷ words) = None
 
--- they ask for this subcommand
+-- The words ask for this subcommand.
 abbrev pub AsksCanhold : Chosen → List (List ℕ) → Type 0
 AsksCanhold chosen words = asked_of_canhold words ≡ Some (Run chosen)

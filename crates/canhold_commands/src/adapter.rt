@@ -1,4 +1,4 @@
-//! The reference between two lines of the runner, and its answer to one.
+//! The reference between two lines of the runner, and its reply to one.
 ghost use Rattle.std.specs.Prelude.{◌≡◌, ◌≢◌, ◌≤◌, ◌++◌, length, map, option_map, OnOk};
 ghost use Rattle.canhold_commands.specs.Adapters.{event_line, play_answer, behind_levels, state_answer};
 ghost use Rattle.canhold_commands.specs.Commands.{quit_line, tester_of as tester_by};
@@ -13,10 +13,10 @@ use document_values::{push_number, push_text};
 use kit_documents::{push_event, push_state};
 use std::alloc::{AllocError, Global};
 
-/// What answers a line that wants a case where none has begun.
+/// The reply to a line that needs a case before one has begun.
 const NO_CASE: &[u8] = b"error no case\n";
 
-/// What answers a line that asks for nothing that there is.
+/// The reply to a line that is not in the protocol.
 const NO_LINE: &[u8] = b"error no line of the protocol\n";
 
 /// The reference between two lines: its port, once a case has begun.
@@ -31,14 +31,14 @@ impl Adapter {
     ghost use Rattle.canhold_commands.specs.Adapters.{if_begun, IsAnswered};
     ghost use Rattle.std.specs.Prelude.{[], codes, None, Some};
 
-    /// No case has begun.
+    /// An adapter for which no case has begun.
     pub(crate) fn new() -> Adapter
         ensures { option_map ⟦<PackedNode as Port>⟧.port result.node ≡ None }
     {
         Adapter { node: None }
     }
 
-    /// Answers a line that does not end the adapter: `out` is the answer, which may be empty.
+    /// Replies to a line other than `quit`. `out` becomes the reply, which may be empty.
     pub(crate) fn answer(
         &mut self,
         alloc: Global,
@@ -76,7 +76,7 @@ impl Adapter {
         push_text(out, b"ready\n")
     }
 
-    /// Offers a frame.
+    /// Queues a frame.
     fn offer(&mut self, frame: Frame, out: &mut Vec<u8>) -> Result<(), AllocError>
         ensures text { OnOk result (out.new.items ≡ out.old.items ++ if_begun (option_map ⟦<PackedNode as Port>⟧.port self.old.node) (λ port. [])) }
         ensures port { OnOk result (option_map ⟦<PackedNode as Port>⟧.port self.new.node ≡ option_map (with_offer frame) (option_map ⟦<PackedNode as Port>⟧.port self.old.node)) }
@@ -90,7 +90,7 @@ impl Adapter {
         }
     }
 
-    /// Asks for overload frames.
+    /// Requests overload frames.
     fn hold(&mut self, count: u8, out: &mut Vec<u8>) -> Result<(), AllocError>
         ensures text { OnOk result (out.new.items ≡ out.old.items ++ if_begun (option_map ⟦<PackedNode as Port>⟧.port self.old.node) (λ port. [])) }
         ensures port { OnOk result (option_map ⟦<PackedNode as Port>⟧.port self.new.node ≡ option_map (wished count) (option_map ⟦<PackedNode as Port>⟧.port self.old.node)) }
@@ -116,7 +116,7 @@ impl Adapter {
         }
     }
 
-    /// Tells what the port has come to.
+    /// Writes the port's state and counters.
     fn end(&self, out: &mut Vec<u8>) -> Result<(), AllocError>
         ensures { OnOk result (out.new.items ≡ out.old.items ++ if_begun (option_map ⟦<PackedNode as Port>⟧.port self.now.node) state_answer) }
     {
@@ -127,7 +127,7 @@ impl Adapter {
     }
 }
 
-/// Plays bit times by their digits: the lines of the events, and then that of the levels.
+/// Plays the bit times with these digits: writes the lines of the events, and then that of the driven levels.
 fn play<P: Port>(port: &mut P, digits: &[u8], out: &mut Vec<u8>) -> Result<(), AllocError>
     requires { length digits.now ≤ MOST_LEVELS }
     ensures text { OnOk result (out.new.items ≡ out.old.items ++ play_answer (map tester_by digits.now) (P.port port.old)) }
@@ -158,7 +158,7 @@ fn tell_event(place: usize, event: Option<Event>, out: &mut Vec<u8>) -> Result<(
     push_text(out, b"\n")
 }
 
-/// Appends the line of a port's state and counters.
+/// Appends the line with the state and counters of a port.
 fn tell_state<P: Port>(port: &P, out: &mut Vec<u8>) -> Result<(), AllocError>
     ensures { OnOk result (out.new.items ≡ out.old.items ++ state_answer (P.port port.now)) }
 {

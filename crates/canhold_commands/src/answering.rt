@@ -1,4 +1,4 @@
-//! Answering the kit document that a reader tells.
+//! Reads a kit document, and writes the output for it.
 ghost use Rattle.std.specs.Prelude.{◌≡◌, ◌⊎◌, ◌↔◌, false, IfErr, IfOk, IsErrOf, IsTrue};
 ghost use Rattle.can_stream.specs.Told.{Told};
 ghost use Rattle.kit_documents.specs.declared.field.KitField.{KitField};
@@ -16,20 +16,22 @@ use can_stream::{Sink, Source, TraceFault, read_whole, write_all};
 use kit_documents::KitFault;
 use std::alloc::Global;
 
-/// What was found in a document.
+/// The result for a document.
 #[derive(Clone, Copy, Debug, PartialEq, Eq)]
 pub enum Finding {
-    /// All transcripts that were judged agree with the reference.
+    /// All judged transcripts agree with the reference.
     Agree,
-    /// Some transcript does not.
+    /// Some transcript differs.
     Differ,
     /// There was no transcript to judge.
     Nothing,
 }
 
-/// Reads a kit document up to the reader's end, and writes the answer to the question. It answers what was
-/// found in the document. Nothing is written where the reader failed, the document is refused, or memory ran
-/// out. `of` becomes the name of the case for which the document is refused, if there is one.
+/// Reads a kit document until the reader ends, and writes the output for the question. Returns the result for the
+/// document.
+///
+/// Nothing is written if the reader fails, the document is refused, or an allocation fails. If the document is refused
+/// for a field that belongs to a case, `of` becomes the name of that case, if it is known.
 pub fn answer_document<R: Source, W: Sink>(
     alloc: Global,
     question: Question,
@@ -41,7 +43,7 @@ pub fn answer_document<R: Source, W: Sink>(
     requires reader_unended { R.has_ended r.old ≡ false }
     requires writer_unfailed { W.has_failed w.old ≡ false }
 
-    // What was written of what was read.
+    // What was read and written.
     ensures ok { IfOk result (λ finding. Told R.remaining r.old r.new W.contents w.old w.new (AnswersSo question finding)) }
     ensures field { (wrong : KitField) → IsErrOf result (CanholdFault.Field wrong) →
         Told R.remaining r.old r.new W.contents w.old w.new (RefusesDocument question wrong) }
@@ -50,7 +52,7 @@ pub fn answer_document<R: Source, W: Sink>(
     ensures memory { IsErrOf result (CanholdFault.Stream TraceFault.Memory) → Told R.remaining r.old r.new W.contents w.old w.new WritesNothing }
     ensures other { IfErr result (λ fault. IsKitFault fault ⊎ (fault ≡ CanholdFault.Stream TraceFault.Read) ⊎ (fault ≡ CanholdFault.Stream TraceFault.Write)) }
 
-    // What the reader and the writer came to.
+    // Whether the reader or the writer failed.
     ensures read_failed { IsErrOf result (CanholdFault.Stream TraceFault.Read) ↔ IsTrue (R.has_failed r.new) }
     ensures write_failed { IsErrOf result (CanholdFault.Stream TraceFault.Write) ↔ IsTrue (W.has_failed w.new) }
 {
@@ -60,14 +62,14 @@ pub fn answer_document<R: Source, W: Sink>(
     Ok(answer.finding)
 }
 
-/// The answer to a document.
+/// The output for a document, and its result.
 #[derive(Drop)]
 struct Answer {
     bytes: Vec<u8>,
     finding: Finding,
 }
 
-/// The answer to the document that the bytes are. `of` becomes the name of the case for which it is refused.
+/// The output for a document. If it is refused, `of` becomes the name of the case that the invalid field belongs to.
 fn answer_or_name(
     alloc: Global,
     question: Question,
@@ -86,7 +88,7 @@ fn answer_or_name(
     answer
 }
 
-/// The answer to the document that the bytes are.
+/// The output for a document.
 fn answer_to(alloc: Global, question: Question, text: &[u8]) -> Result<Answer, KitFault>
     ensures found { IfOk result (λ answer. AnswersSo question answer.finding text.now answer.bytes.items) }
     ensures wrong { (wrong : KitField) → IsErrOf result (KitFault.Field wrong) → IsWrongKitField (demands_of question) wrong text.now }
@@ -106,7 +108,7 @@ fn answer_to(alloc: Global, question: Question, text: &[u8]) -> Result<Answer, K
     }
 }
 
-/// What was found where so many transcripts have which verdict.
+/// The result for transcripts with this count of verdicts.
 fn found(tally: Tally) -> Finding
     ensures { result ≡ finding_of tally }
 {

@@ -1,4 +1,4 @@
-//! What a line of the runner asks for.
+//! The commands in the lines of a runner.
 ghost use Rattle.std.specs.Prelude.{◌≡◌, ◌≢◌, ◌↔◌, ◌<◌, ℕ, List, ◌++◌, map, codes, IsTrue, MatchOption};
 ghost use Rattle.std.specs.List.{list_all};
 ghost use Rattle.can_conform.specs.declared.script.Start.{Start as StartSaid};
@@ -10,10 +10,10 @@ use can_conform::{Start, TesterLevel};
 use can_frame::Frame;
 use kit_documents::LONGEST_NAME;
 
-/// How many bit times a line plays at most.
+/// A line plays at most this number of bit times.
 pub(crate) const MOST_LEVELS: usize = 4096;
 
-/// What stands behind this word, if the line begins with it.
+/// What follows this word, if the line begins with it.
 fn behind<'a>(line: &'a [u8], word: &[u8]) -> Option<&'a [u8]>
     ensures { MatchOption result ((rest : List ℕ) → line.now ≢ word.now ++ rest) (λ rest. line.now ≡ word.now ++ rest.now) }
 {
@@ -27,7 +27,7 @@ fn name_before<'a>(line: &'a [u8], ending: &[u8]) -> Option<&'a [u8]>
     behind(line, b"case ")?.strip_suffix(ending)
 }
 
-/// Whether the line is `case NAME` with this ending, where the name is short enough.
+/// Whether the line is `case NAME` with this ending, and the name is short enough.
 fn is_case(line: &[u8], ending: &[u8]) -> bool
     ensures { IsTrue result ↔ IsCaseLine line.now ending.now }
 {
@@ -37,7 +37,7 @@ fn is_case(line: &[u8], ending: &[u8]) -> bool
     name.len() <= LONGEST_NAME
 }
 
-/// What the bus was before the case that the line begins.
+/// The start of the case that the line begins.
 pub(crate) fn start_in(line: &[u8]) -> Option<Start>
     ensures { MatchOption result ((start : StartSaid) → IsCaseLine line.now (start_part start) → ⊥) (λ start. IsCaseLine line.now (start_part start)) }
 {
@@ -57,7 +57,7 @@ pub(crate) fn frame_in(line: &[u8]) -> Option<Frame>
     Frame::from_text(behind(line, b"offer ")?).ok()
 }
 
-/// How many overload frames the line asks for.
+/// The number of overload frames that the line requests.
 pub(crate) fn wish_in(line: &[u8]) -> Option<u8>
     ensures { MatchOption result ((n : ℕ) → IsHoldLine line.now n → ⊥) (IsHoldLine line.now) }
 {
@@ -85,7 +85,7 @@ pub(crate) fn digits_in(line: &[u8]) -> Option<&[u8]>
     Some(digits)
 }
 
-/// Whether each byte is a digit of the tester.
+/// Whether each byte is a digit for the tester.
 fn are_digits(bytes: &[u8]) -> bool
     ensures { result ≡ list_all is_tester_digit bytes.now }
 {
@@ -94,7 +94,7 @@ fn are_digits(bytes: &[u8]) -> bool
         .all(|byte| *byte == b'0' || *byte == b'1' || *byte == b'f')
 }
 
-/// What the tester does by its digit.
+/// What the tester does for a digit.
 pub(crate) fn tester_of(digit: u8) -> TesterLevel
     ensures { result ≡ tester_by digit }
 {

@@ -1,4 +1,4 @@
-//! How a transcript differs: what it tells, and what it ought to tell.
+//! How a transcript differs: the actual and the expected value.
 ghost use Rattle.std.specs.Prelude.{◌≡◌, ◌++◌, OnOk};
 ghost use Rattle.canhold_commands.specs.Verdicts.{counters_text, difference_text, ending_text, event_or_nothing, level_difference, level_text};
 
@@ -9,7 +9,7 @@ use document_values::{push_number, push_text};
 use kit_documents::{push_event, push_state};
 use std::alloc::AllocError;
 
-/// What stands between what is told and what ought to be.
+/// It separates the actual from the expected value.
 const NOT: &[u8] = b" not ";
 
 /// Appends a difference.
@@ -39,7 +39,7 @@ pub(crate) fn push_difference(out: &mut Vec<u8>, difference: &Difference) -> Res
     }
 }
 
-/// Appends a level and another one, or that there are too few or too many of them.
+/// Appends an actual and an expected level, or that there are too few or too many.
 fn push_level_difference(
     out: &mut Vec<u8>,
     told: Option<Level>,

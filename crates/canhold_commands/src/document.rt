@@ -16,7 +16,7 @@ use kit_documents::{Case, KitFault, KitField, Told, read_cases, read_transcripts
 use std::alloc::Global;
 use toml::{Table, Value};
 
-/// How many cases a document has at most, and how many transcripts.
+/// A document has at most this number of cases, and of transcripts.
 const MOST_TABLES: usize = 4096;
 
 /// The fields that a document may have.
@@ -32,11 +32,11 @@ pub struct Document {
 }
 
 impl Document {
-    /// The kit document that the bytes are: a TOML document with a list of tables `case`, a list of tables
-    /// `transcript`, and nothing else at the top.
+    /// Reads a kit document: TOML with an array of tables `case`, an array of tables `transcript`, and nothing else at
+    /// the top level.
     ///
-    /// `Field` names the first field that isn't as it has to be: the top is tested first, then each case, then
-    /// each transcript. `Memory` says that memory ran out. The document holds all memory that it needs.
+    /// The error is `Field` with the first invalid field, or `Memory` if an allocation failed. The top level is tested
+    /// first, then each case, then each transcript. The returned document owns all memory that it needs.
     pub fn from_text(alloc: Global, text: &[u8]) -> Result<Document, KitFault>
         ensures found { IfOk result (IsKitText text.now) }
         ensures short { IfOk result (λ document. All (λ one. length one.script.tester.items ≤ longest_case) document.cases.items) }
@@ -50,7 +50,7 @@ impl Document {
     }
 }
 
-/// The fields at the top of the TOML document that the bytes are.
+/// The fields at the top level of a TOML document.
 pub(crate) fn read_fields(alloc: Global, text: &[u8]) -> Result<Table, KitFault>
     ensures said { IfOk result (λ fields. IsDocument text.now (table (table_view fields))) }
     ensures wrong { (wrong : Wrong) → IsErrOf result (KitFault.Field wrong) → IsNoDocument KitField.Document wrong text.now }
@@ -84,7 +84,7 @@ struct Top<'a> {
     transcripts: &'a [Value],
 }
 
-/// Reads the fields at the top of a document.
+/// Reads the fields at the top level of a document.
 fn read_top(fields: &Table) -> Result<Top<'_>, KitFault>
     ensures cases { IfOk result (λ top. map view top.cases.now ≡ cases_of (table (table_view fields.now))) }
     ensures transcripts { IfOk result (λ top. map view top.transcripts.now ≡ transcripts_of (table (table_view fields.now))) }
@@ -104,7 +104,7 @@ fn read_top(fields: &Table) -> Result<Top<'_>, KitFault>
     Ok(Top { cases, transcripts })
 }
 
-/// The elements of a list of at most 4096, which may be left out.
+/// The elements of a list of at most 4096; none if it is left out.
 fn tables<'a>(fields: &'a Table, name: &str) -> Option<&'a [Value]>
     ensures said { IfSome result (λ values. map view values.now ≡ elements_in (named name.now (table (table_view fields.now)))) }
     ensures few { IfSome result (λ values. length values.now ≤ 4096) }

@@ -1,4 +1,4 @@
-//! The lists of a transcript, an element a line.
+//! The lists of a transcript, one element a line.
 ghost use Rattle.std.specs.Prelude.{ℕ, ◌≡◌, ◌++◌, List, OnOk};
 ghost use Rattle.canhold_commands.specs.Transcripts.{counters_element, element_lines, event_element, list_text, where_told};
 
@@ -9,7 +9,7 @@ use document_values::{push_number, push_text};
 use kit_documents::push_event;
 use std::alloc::AllocError;
 
-/// What stands in a list.
+/// An element of a list.
 pub(crate) trait Element: Sized {
     /// The element, without the brackets around it.
     ghost text: { Self → List ℕ };
@@ -40,7 +40,7 @@ impl Element for Timed<Counters> {
     }
 }
 
-/// Appends a list by its key, if it is told.
+/// Appends a list with its key; nothing if it is left out.
 pub(crate) fn push_list<T: Element>(
     out: &mut Vec<u8>,
     key: &[u8],

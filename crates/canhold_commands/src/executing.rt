@@ -17,22 +17,21 @@ use can_program::{WordsFault, conclude, conclude_of, refuse, write_help};
 use can_stream::{Sink, Source};
 use std::alloc::Global;
 
-/// The program's name, before the line of a fault.
+/// The program's name, which begins the line of a fault.
 pub const NAME: &str = "canhold";
 
-/// Does what the words ask, and answers the exit status. The first of the words is the program's name. The
-/// subcommand reads `r` and writes its answer to `w`; the text of help and the version go to `w`, and the line of a
-/// fault to `e`.
+/// Executes the command line, and returns the exit status. The first word is the program's name. The subcommand reads
+/// `r` and writes its output to `w`. The help text and the version are written to `w`, and the line of a fault to `e`.
 ///
-/// | Status | Line | Why |
+/// | Status | Line | Meaning |
 /// |---|---|---|
-/// | 0 | none | all was done, and all that was judged passes; some was, where it was asked for |
+/// | 0 | none | success; for `judge`, there are transcripts, and all pass |
 /// | 1 | `canhold: P2 case[3].tester[1] of start-first`, `canhold: P6 long` | the document or the input is refused |
-/// | 1 | `canhold: transcripts differ` | all was done, and some transcript does not pass |
+/// | 1 | `canhold: transcripts differ` | all are judged, and some transcript does not pass |
 /// | 2 | `canhold: usage` | the words are refused |
 /// | 3 | `canhold: P3 read`, `canhold: P4 write` | `r` or `w` failed |
-/// | 4 | `canhold: P5 memory` | memory ran out |
-/// | 5 | `canhold: nothing judged` | all was done, and there was no transcript to judge |
+/// | 4 | `canhold: P5 memory` | an allocation failed |
+/// | 5 | `canhold: nothing judged` | the document has no transcript to judge |
 pub fn execute<R: Source, W: Sink, E: Sink>(
     alloc: Global,
     words: &[String],
@@ -45,24 +44,24 @@ pub fn execute<R: Source, W: Sink, E: Sink>(
     requires writer_unfailed { W.has_failed w.old ≡ false }
     ensures status { result < 6 }
 
-    // What the subcommand wrote of what it read, by the outcome that the status tells.
+    // What the subcommand read and wrote, for the outcome with this status.
     ensures told { (chosen : Chosen) → AsksCanhold chosen (texts_of words.now)
         → (outcome : Result (Unit {0}) CanholdFault) × (result ≡ exit_status canhold_status outcome)
         × Told R.remaining r.old r.new W.contents w.old w.new (DoesChosen chosen outcome) }
 
-    // A stream's failure is told, and nothing else is told so.
+    // Status 3 is returned exactly if a stream failed.
     ensures stream_failed { result ≡ 3 → IsTrue (R.has_failed r.new) ⊎ IsTrue (W.has_failed w.new) }
     ensures write_told { IsTrue (W.has_failed w.new) → result ≡ 3 }
     ensures read_told { IsTrue (R.has_failed r.new) → result ≡ 3 }
 
-    // Help is written where the words ask for it, and other words are refused.
+    // The help text is written if the words ask for it. Words that ask for nothing are refused.
     ensures help_status { asked_of_canhold (texts_of words.now) ≡ Option.Some Asked.Help → (result ≡ 0) ⊎ (result ≡ 3) }
     ensures helped { asked_of_canhold (texts_of words.now) ≡ Option.Some Asked.Help → result ≡ 0
         → Appends (W.contents w.old) (W.contents w.new) HELP.now }
     ensures refused { asked_of_canhold (texts_of words.now) ≡ Option.None → result ≡ 2 }
     ensures misuse { result ≡ 2 → asked_of_canhold (texts_of words.now) ≡ Option.None }
 
-    // So is the version.
+    // The version is written if the words ask for it.
     ensures version_status { asked_of_canhold (texts_of words.now) ≡ Option.Some Asked.Version → (result ≡ 0) ⊎ (result ≡ 3) }
     ensures version_written { asked_of_canhold (texts_of words.now) ≡ Option.Some Asked.Version → result ≡ 0
         → Appends (W.contents w.old) (W.contents w.new) VERSION.now }
@@ -85,7 +84,8 @@ pub fn execute<R: Source, W: Sink, E: Sink>(
     }
 }
 
-/// Does what the subcommand asks. `of` becomes the name of the case for which a document is refused.
+/// Executes a subcommand. If it refuses a document, `of` becomes the name of the case that the invalid field belongs
+/// to.
 fn answer<R: Source, W: Sink>(
     alloc: Global,
     chosen: Chosen,
@@ -105,7 +105,7 @@ fn answer<R: Source, W: Sink>(
     }
 }
 
-/// Answers the document that the reader tells.
+/// Writes the output for the document that is read.
 fn answered<R: Source, W: Sink>(
     alloc: Global,
     question: Question,

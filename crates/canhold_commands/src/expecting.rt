@@ -1,4 +1,4 @@
-//! A document with the transcripts of the reference behind it.
+//! A document followed by the transcripts of the reference.
 ghost use Rattle.std.specs.Prelude.{◌≤◌, All, length, IfOk, IsErrOf, OnOk};
 ghost use Rattle.kit_documents.specs.declared.field.KitField.{KitField as Wrong};
 ghost use Rattle.kit_documents.specs.Cases.{longest_case};
@@ -12,11 +12,11 @@ use document_values::field;
 use kit_documents::{Case, KitFault, KitField};
 use std::alloc::{AllocError, Global};
 
-/// The kit document that the bytes are, and behind it a table for each of its cases: the transcript of the
-/// reference, with levels, events, counters and the end.
+/// Returns a kit document, byte for byte, followed by a table for each of its cases: the reference's transcript with
+/// levels, events, counters and the end.
 ///
-/// `Field` names the first field that isn't as it has to be, as [`Document::from_text`] does; a document that has
-/// a list of transcripts, be it empty, is refused for that list. `Memory` says that memory ran out.
+/// The error is `Field` with the first invalid field, as in [`Document::from_text`], or `Memory` if an allocation
+/// failed. A document with a list of transcripts, even an empty one, is refused for that list.
 pub fn expected(alloc: Global, text: &[u8]) -> Result<Vec<u8>, KitFault>
     ensures found { IfOk result (λ answer. IsExpected text.now answer.items) }
     ensures wrong { (wrong : Wrong) → IsErrOf result (KitFault.Field wrong) → IsWrongKitField cases_alone_demands wrong text.now }
@@ -25,8 +25,7 @@ pub fn expected(alloc: Global, text: &[u8]) -> Result<Vec<u8>, KitFault>
     Ok(with_tables(alloc, text, &document.cases)?)
 }
 
-/// The kit document that the bytes are, which has no list of transcripts: TOML takes no tables behind an empty
-/// one.
+/// Reads a kit document that must have no list of transcripts: TOML allows no tables after an empty one.
 fn read_alone(alloc: Global, text: &[u8]) -> Result<Document, KitFault>
     ensures read { IfOk result (IsCasesText text.now) }
     ensures short { IfOk result (λ document. All (λ one. length one.script.tester.items ≤ longest_case) document.cases.items) }
@@ -40,7 +39,7 @@ fn read_alone(alloc: Global, text: &[u8]) -> Result<Document, KitFault>
     Ok(document)
 }
 
-/// The bytes, and behind them the table of each case's transcript.
+/// The bytes, followed by the table of each case's transcript.
 fn with_tables(alloc: Global, text: &[u8], cases: &[Case]) -> Result<Vec<u8>, AllocError>
     requires { All (λ one. length one.script.tester.items ≤ longest_case) cases.now }
     ensures { IfOk result (λ answer. AddTables cases.now text.now answer.items) }

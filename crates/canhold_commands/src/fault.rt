@@ -1,4 +1,4 @@
-//! Why `canhold` did not do all that it was asked.
+//! Why `canhold` did not succeed.
 ghost use Rattle.std.specs.Prelude.{◌≡◌};
 ghost use Rattle.canhold_commands.specs.Status.{kit_fault_of, canhold_status};
 ghost use Rattle.canhold_commands.specs.declared.fault.CanholdFault.TheVariants.{Stream};
@@ -8,19 +8,19 @@ use can_stream::TraceFault;
 use kit_documents::{KitFault, KitField};
 use thiserror::Error;
 
-/// Why a subcommand did not do all that it was asked.
+/// Why a subcommand did not succeed.
 #[derive(Clone, Copy, Debug, PartialEq, Eq, Error)]
 pub enum CanholdFault {
     /// The document is refused for this field.
     #[error("P2 {0}")]
     Field(KitField),
-    /// Not all transcripts tell what the reference does.
+    /// Not all transcripts agree with the reference.
     #[error("transcripts differ")]
     TranscriptsDiffer,
     /// There was no transcript to judge.
     #[error("nothing judged")]
     NothingJudged,
-    /// The input was not read or a runner's lines are refused, the answer was not written, or memory ran out.
+    /// A stream failed, an allocation failed, or the runner's input is too long.
     #[error(transparent)]
     Stream(TraceFault),
 }

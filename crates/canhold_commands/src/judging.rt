@@ -1,4 +1,4 @@
-//! Verdicts of the transcripts of a document.
+//! Verdicts on the transcripts of a document.
 ghost use Rattle.std.specs.Prelude.{◌≡◌, ◌≤◌, ◌<◌, ◌+◌, ◌++◌, false, not, count_by, replicate, All, [], length, IfOk, IsErrOf, OnOk};
 ghost use Rattle.std.specs.String.{string_bytes};
 ghost use Rattle.canhold_commands.specs.Verdicts.{verdict_line};
@@ -16,20 +16,20 @@ use can_conform::{Verdict, judge};
 use kit_documents::{Case, KitFault, Told};
 use std::alloc::{AllocError, Global};
 
-/// What is said of the transcripts of a document.
+/// The verdicts on the transcripts of a document.
 #[derive(Debug, Drop)]
 pub struct Judgement {
-    /// A line for each transcript, in their order, and behind them the count, which also says how many cases have
-    /// no transcript. Each ends with 0x0a.
+    /// A line for each transcript, in their order, and then the count, which includes the number of cases without a
+    /// transcript. Each line ends with 0x0a.
     pub lines: Vec<u8>,
-    /// How many transcripts have which verdict; none is void or skipped.
+    /// The number of transcripts with each verdict. None is void or skipped.
     pub tally: Tally,
 }
 
-/// Judges each transcript of the kit document that the bytes are.
+/// Judges each transcript of a kit document.
 ///
-/// `Field` names the first field that isn't as it has to be, as [`Document::from_text`] does. `Memory` says that
-/// memory ran out.
+/// The error is `Field` with the first invalid field, as in [`Document::from_text`], or `Memory` if an allocation
+/// failed.
 pub fn judged(alloc: Global, text: &[u8]) -> Result<Judgement, KitFault>
     ensures found { IfOk result (λ judgement. IsJudged text.now judgement.lines.items judgement.tally) }
     ensures wrong { (wrong : Wrong) → IsErrOf result (KitFault.Field wrong) → IsWrongKitField document_demands wrong text.now }
@@ -52,7 +52,7 @@ fn judge_all(alloc: Global, document: &Document) -> Result<Judgement, AllocError
     Ok(Judgement { lines, tally })
 }
 
-/// How many cases of a document have no transcript.
+/// The number of cases of a document without a transcript.
 fn cases_without(alloc: Global, document: &Document) -> Result<usize, AllocError>
     requires { All (λ one. one.case < length document.now.cases.items) document.now.transcripts.items }
     ensures { IfOk result (λ count. count ≡ without_in document.now) }
@@ -61,7 +61,7 @@ fn cases_without(alloc: Global, document: &Document) -> Result<usize, AllocError
     Ok(unmarked(&marks))
 }
 
-/// A mark for each of so many cases, set where one of these transcripts is of it.
+/// A mark for each of `number` cases, set if one of these transcripts belongs to it.
 fn marks_of(alloc: Global, number: usize, transcripts: &[Told]) -> Result<Vec<bool>, AllocError>
     requires { All (λ one. one.case < number) transcripts.now }
     ensures { IfOk result (λ marks. marks.items ≡ with_marks transcripts.now (replicate number false)) }
@@ -71,21 +71,21 @@ fn marks_of(alloc: Global, number: usize, transcripts: &[Told]) -> Result<Vec<bo
     Ok(marks)
 }
 
-/// How many of these aren't marked.
+/// The number of marks that are not set.
 fn unmarked(marks: &[bool]) -> usize
     ensures { result ≡ count_by not marks.now }
 {
     marks.iter().filter(|mark| !**mark).count()
 }
 
-/// So many marks, none of them set.
+/// `number` marks, none of them set.
 fn no_marks(alloc: Global, number: usize) -> Result<Vec<bool>, AllocError>
     ensures { IfOk result (λ marks. marks.items ≡ replicate number false) }
 {
     Ok(vec![in alloc; false; number]?)
 }
 
-/// Marks the places of the cases that these transcripts are of.
+/// Sets the marks of the cases that these transcripts belong to.
 fn mark(marks: &mut [bool], transcripts: &[Told])
     requires { All (λ one. one.case < length marks.old) transcripts.now }
     ensures { marks.new ≡ with_marks transcripts.now marks.old }
@@ -95,7 +95,7 @@ fn mark(marks: &mut [bool], transcripts: &[Told])
     }
 }
 
-/// Appends a line for each transcript, of one of these cases, and counts the verdicts.
+/// Appends a line for each transcript, and counts the verdicts.
 fn push_verdicts(
     alloc: Global,
     out: &mut Vec<u8>,
@@ -134,7 +134,7 @@ fn push_one(
     }
 }
 
-/// Appends the line of a verdict on the transcript of this case.
+/// Appends the line of this verdict on the transcript of this case.
 fn push_said(
     out: &mut Vec<u8>,
     case: &Case,
@@ -149,7 +149,7 @@ fn push_said(
     Ok(counted(tally, verdict))
 }
 
-/// One more transcript has this verdict.
+/// Counts one more verdict.
 fn counted(tally: Tally, verdict: &Verdict) -> Tally
     requires { (tally.passed ≤ 4095) × (tally.failed ≤ 4095) }
     ensures { result ≡ with_verdict tally verdict.now }

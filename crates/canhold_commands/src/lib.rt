@@ -1,29 +1,31 @@
-//! What the program `canhold` does with the words of its command line, over any reader and writers; what is answered to
-//! a document of the conformance kit, from `document.rt` on, with transcripts and verdicts as text; and, from `play.rt`
-//! on, the reference as an adapter, which plays cases that a runner asks for, line by line. (docs/CONFORMANCE.md)
+//! The commands of the program `canhold`, over any reader and writers. (docs/CONFORMANCE.md)
+//!
+//! From `document.rt` on, it reads a document of the conformance kit, and writes the reference's transcripts or
+//! verdicts. From `play.rt` on, the reference is an adapter: it plays the cases of a runner, line by line.
 //!
 //! | File | What it has | Defined in |
 //! |---|---|---|
-//! | `words.rt` | [`Asked`], what the words of a command line ask for: a subcommand, [`Chosen`], the help text or the version | `specs/Words.antt` |
+//! | `words.rt` | [`Asked`]: what the words of a command line ask for, a subcommand ([`Chosen`]), the help text or the version | `specs/Words.antt` |
 //! | `help.rt` | [`HELP`], the help text; [`VERSION`] | |
-//! | `fault.rt` | [`CanholdFault`], why a subcommand did not do all that it was asked | `specs/Status.antt` |
-//! | `answering.rt` | a kit document in, the answer to it out | `specs/Answers.antt` |
-//! | `executing.rt` | [`execute`], what a run does, its fault line and its exit status | `specs/Answers.antt` |
-//! | `document.rt` | [`Document`], cases and transcripts | `specs/Documents.antt` |
-//! | `expecting.rt` | [`expected`], a document with the transcripts of the reference behind it | `specs/Expectations.antt` |
-//! | `judging.rt` | [`judged`], a verdict for each transcript of a document, and their count | `specs/Judgements.antt` |
-//! | `naming.rt` | [`case_of`], the name of the case that a refused field is of | `specs/CaseNames.antt` |
-//! | `transcript.rt` | [`push_transcript`], the table of a transcript | `specs/Transcripts.antt` |
-//! | `elements.rt` | its lists, an element a line | `specs/Transcripts.antt` |
-//! | `verdict.rt` | [`push_verdict`], the line of a verdict | `specs/Verdicts.antt` |
-//! | `difference.rt` | what a transcript tells, and what it ought to tell | `specs/Verdicts.antt` |
-//! | `standing.rt` | where the reference stands: words for phases, parts and rules | `specs/Standings.antt` |
-//! | `tally.rt` | [`push_count`], the line that counts the cases of a [`Tally`] | `specs/Counts.antt` |
-//! | `play.rt` | [`play_lines`], which answers each line of a runner before it reads on | `specs/Plays.antt` |
-//! | `adapter.rt` | the reference between two lines, and the answer to one | `specs/Adapters.antt` |
-//! | `command.rt` | what a line of the runner asks for | `specs/Commands.antt` |
+//! | `fault.rt` | [`CanholdFault`]: why a subcommand did not succeed | `specs/Status.antt` |
+//! | `answering.rt` | reads a kit document, and writes the output for it | `specs/Answers.antt` |
+//! | `executing.rt` | [`execute`]: a run, its fault line and its exit status | `specs/Answers.antt` |
+//! | `document.rt` | [`Document`]: cases and transcripts | `specs/Documents.antt` |
+//! | `expecting.rt` | [`expected`]: a document followed by the transcripts of the reference | `specs/Expectations.antt` |
+//! | `judging.rt` | [`judged`]: a verdict for each transcript of a document, and their count | `specs/Judgements.antt` |
+//! | `naming.rt` | [`case_of`]: the name of the case that an invalid field belongs to | `specs/CaseNames.antt` |
+//! | `transcript.rt` | [`push_transcript`]: the table of a transcript | `specs/Transcripts.antt` |
+//! | `elements.rt` | its lists, one element a line | `specs/Transcripts.antt` |
+//! | `verdict.rt` | [`push_verdict`]: the line of a verdict | `specs/Verdicts.antt` |
+//! | `difference.rt` | actual and expected values | `specs/Verdicts.antt` |
+//! | `standing.rt` | the state of the reference: words for phases, parts and rules | `specs/Standings.antt` |
+//! | `tally.rt` | [`push_count`]: the line that counts the cases of a [`Tally`] | `specs/Counts.antt` |
+//! | `play.rt` | [`play_lines`]: replies to each line of a runner before it reads on | `specs/Plays.antt` |
+//! | `adapter.rt` | the reference between two lines, and the reply to one | `specs/Adapters.antt` |
+//! | `command.rt` | the commands in the lines of a runner | `specs/Commands.antt` |
 //!
-//! The contract of `execute` says for each outcome what was read and written. An append fails only where an allocation does.
+//! The contract of `execute` defines what was read and written, for each outcome. An append fails only if an allocation
+//! fails.
 #![tactic(auto)]
 
 mod adapter;

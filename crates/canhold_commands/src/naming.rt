@@ -1,4 +1,4 @@
-//! The name of the case that a refused field is of.
+//! The name of the case that an invalid field belongs to.
 ghost use Rattle.std.specs.Prelude.{IfSome};
 ghost use Rattle.std.specs.String.{string_bytes};
 ghost use Rattle.toml.specs.Data.{table};
@@ -11,9 +11,14 @@ use kit_documents::{KitField, LONGEST_NAME, is_name, text_of};
 use std::alloc::Global;
 use toml::Table;
 
-/// The name of the case of this field in the kit document that the bytes are, as its table says it, or that of its
-/// transcript. There is none where the field is of no case, where the table says no name of 1 to 80 letters from a to
-/// z, digits and hyphens, and where memory runs out.
+/// Returns the name of the case that a field of a kit document belongs to, as its table or its transcript's table has
+/// it.
+///
+/// It returns `None` in three cases:
+///
+/// - The field belongs to no case.
+/// - The table has no name of 1 to 80 letters from a to z, digits and hyphens.
+/// - An allocation failed.
 pub fn case_of(alloc: Global, text: &[u8], wrong: KitField) -> Option<String>
     ensures { IfSome result (λ name. IsCaseIn text.now wrong (string_bytes name)) }
 {
@@ -22,7 +27,7 @@ pub fn case_of(alloc: Global, text: &[u8], wrong: KitField) -> Option<String>
     String::from_str(alloc, name).ok()
 }
 
-/// The name of the case that a field of a document with these fields is of.
+/// The name of the case that a field of a document belongs to.
 fn name_of(fields: &Table, wrong: KitField) -> Option<&str>
     ensures { IfSome result (λ name. IsOfCase wrong (table (table_view fields.now)) name.now) }
 {
@@ -33,7 +38,7 @@ fn name_of(fields: &Table, wrong: KitField) -> Option<&str>
     }
 }
 
-/// The name that a field says of the table of this number in a list.
+/// The name in a field of the table with this number in a list.
 fn name_in<'a>(fields: &'a Table, list: &str, number: usize, part: &str) -> Option<&'a str>
     ensures { IfSome result (λ name. NamesTable list.now number part.now (table (table_view fields.now)) name.now) }
 {

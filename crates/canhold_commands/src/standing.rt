@@ -1,4 +1,4 @@
-//! Where the reference stands: words for phases, parts and rules.
+//! The state of the reference: words for phases, parts and rules.
 ghost use Rattle.std.specs.Prelude.{◌≡◌, ◌++◌, decimal, OnOk};
 ghost use Rattle.canhold_commands.specs.Standings.{part_word as word_of_part, phase_text, rule_name as name_of_rule, since_text, standing_text};
 
@@ -33,7 +33,7 @@ fn push_since(out: &mut Vec<u8>, since: &Option<Timed<Event>>) -> Result<(), All
     push_number(out, u64::from(last.time))
 }
 
-/// Appends a phase, and how much of it has come.
+/// Appends a phase and its number, if it has one.
 fn push_phase(out: &mut Vec<u8>, phase: PhaseName) -> Result<(), AllocError>
     ensures { OnOk result (out.new.items ≡ out.old.items ++ phase_text phase) }
 {
@@ -59,7 +59,7 @@ fn push_phase(out: &mut Vec<u8>, phase: PhaseName) -> Result<(), AllocError>
     }
 }
 
-/// Appends a word, and how much has come.
+/// Appends a word and a number.
 fn push_so_far(out: &mut Vec<u8>, word: &[u8], count: u8) -> Result<(), AllocError>
     ensures { OnOk result (out.new.items ≡ out.old.items ++ (word.now ++ decimal count)) }
 {

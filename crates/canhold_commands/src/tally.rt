@@ -1,18 +1,18 @@
-//! How many cases have which verdict.
+//! The number of cases with each verdict.
 ghost use Rattle.std.specs.Prelude.{◌≡◌, ◌++◌, decimal, OnOk};
 ghost use Rattle.canhold_commands.specs.Counts.{cases_in, count_line, verdicts_text, without_text};
 
 use document_values::{push_number, push_text};
 use std::alloc::AllocError;
 
-/// How many cases of a run have which verdict.
+/// The number of cases of a run with each verdict.
 #[derive(Clone, Copy, Debug, PartialEq, Eq)]
 pub struct Tally {
     pub passed: u32,
     pub failed: u32,
     /// A case could not be played to its end.
     pub void: u32,
-    /// A case needs what the bench can't do.
+    /// A case needs what the test bench cannot do.
     pub skipped: u32,
 }
 
@@ -25,7 +25,7 @@ impl Tally {
         skipped: 0,
     };
 
-    /// How many cases there are.
+    /// Returns the number of cases.
     pub fn cases(self) -> u64
         ensures { result ≡ cases_in self }
     {
@@ -36,8 +36,8 @@ impl Tally {
     }
 }
 
-/// Appends the line that counts the cases of a run, `passed 1 failed 1 void 0 skipped 0 of 2`, and 0x0a. Of cases
-/// that have no transcript, and so no verdict, it says how many there are: `, 3 without a transcript`.
+/// Appends the line that counts the cases of a run, `passed 1 failed 1 void 0 skipped 0 of 2`, and 0x0a. If `without`
+/// is not 0, the line ends with `, 3 without a transcript`: cases without a transcript have no verdict.
 pub fn push_count(out: &mut Vec<u8>, tally: Tally, without: u64) -> Result<(), AllocError>
     ensures { OnOk result (out.new.items ≡ out.old.items ++ count_line tally without) }
 {
@@ -46,7 +46,7 @@ pub fn push_count(out: &mut Vec<u8>, tally: Tally, without: u64) -> Result<(), A
     push_text(out, b"\n")
 }
 
-/// Appends how many cases have which verdict, and how many these are.
+/// Appends the number of cases with each verdict, and their sum.
 fn push_verdicts(out: &mut Vec<u8>, tally: Tally) -> Result<(), AllocError>
     ensures { OnOk result (out.new.items ≡ out.old.items ++ verdicts_text tally) }
 {
@@ -57,7 +57,7 @@ fn push_verdicts(out: &mut Vec<u8>, tally: Tally) -> Result<(), AllocError>
     push_number_behind(out, b" of ", tally.cases())
 }
 
-/// Appends how many cases have no transcript, or nothing where each has one.
+/// Appends the number of cases without a transcript; nothing if it is 0.
 fn push_without(out: &mut Vec<u8>, without: u64) -> Result<(), AllocError>
     ensures { OnOk result (out.new.items ≡ out.old.items ++ without_text without) }
 {

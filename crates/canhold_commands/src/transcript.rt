@@ -9,8 +9,8 @@ use document_values::{push_number, push_text};
 use kit_documents::{push_levels, push_state};
 use std::alloc::AllocError;
 
-/// Appends the table of a transcript, for the case of this name. The levels stand in one string; events, counters and
-/// the end have no line where they are left out. The first line is empty, so that tables can follow one another.
+/// Appends the table of a transcript, for the case with this name. The levels are in one string. Events, counters and
+/// the end have no line if they are left out. The first line is empty, so that tables can follow one another.
 pub fn push_transcript(
     out: &mut Vec<u8>,
     name: &[u8],
@@ -25,7 +25,7 @@ pub fn push_transcript(
     push_end(out, &transcript.end)
 }
 
-/// Appends the lines down to the name.
+/// Appends the lines from the first to the name.
 #[tactic(auto, unfolding(crate::specs::Transcripts::transcript_head))]
 fn push_head(out: &mut Vec<u8>, name: &[u8]) -> Result<(), AllocError>
     ensures { OnOk result (out.new.items ≡ out.old.items ++ transcript_head name.now) }
@@ -38,7 +38,7 @@ fn push_head(out: &mut Vec<u8>, name: &[u8]) -> Result<(), AllocError>
     )
 }
 
-/// Appends bytes, with these before and behind them.
+/// Appends bytes, with these before and after them.
 fn push_between(
     out: &mut Vec<u8>,
     before: &[u8],
@@ -64,7 +64,7 @@ fn push_drove(out: &mut Vec<u8>, levels: &[Level]) -> Result<(), AllocError>
     push_text(out, b"\"]\n")
 }
 
-/// Appends the line of the end, if it is told.
+/// Appends the line of the end; nothing if it is left out.
 fn push_end(out: &mut Vec<u8>, end: &Option<Ending>) -> Result<(), AllocError>
     ensures { OnOk result (out.new.items ≡ out.old.items ++ where_told end_line end.now) }
 {

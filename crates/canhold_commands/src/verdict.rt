@@ -9,9 +9,8 @@ use document_values::{push_number, push_text};
 use kit_documents::Choice;
 use std::alloc::AllocError;
 
-/// Appends what is said of the case of this name, which rests on these choices: `pass NAME`, or
-/// `fail NAME at` and the bit time, the first difference, where the reference stands before it, and the choices. The
-/// line ends with 0x0a.
+/// Appends the line of a verdict on the case with this name: `pass NAME`, or `fail NAME at` and the bit time, the first
+/// difference, the reference's state before it, and these choices. The line ends with 0x0a.
 pub fn push_verdict(
     out: &mut Vec<u8>,
     name: &[u8],
@@ -35,7 +34,7 @@ pub fn push_verdict(
     push_text(out, b"\n")
 }
 
-/// Appends the bit time, the difference, and where the reference stands before.
+/// Appends the bit time, the difference, and the reference's state before it.
 fn push_failure(out: &mut Vec<u8>, failure: &Failure) -> Result<(), AllocError>
     ensures { OnOk result (out.new.items ≡ out.old.items ++ failure_text failure.now) }
 {

@@ -3,21 +3,21 @@ ghost use Rattle.std.specs.Prelude.{◌≡◌};
 ghost use Rattle.can_program.specs.Words.{texts_of};
 ghost use Rattle.canhold_commands.specs.Words.{asked_of_canhold, canhold_word, canhold_words};
 
-/// What is asked of a kit document.
+/// What is asked about a kit document.
 #[derive(Clone, Copy, Debug, PartialEq, Eq)]
 pub enum Question {
     /// What the reference does in each of its cases.
     Expect,
-    /// Whether its transcripts tell what the reference does.
+    /// Whether its transcripts agree with the reference.
     Judge,
 }
 
 /// A subcommand.
 #[derive(Clone, Copy, Debug, PartialEq, Eq)]
 pub enum Chosen {
-    /// A kit document in, an answer out.
+    /// Reads a kit document, and writes the output for it.
     Document(Question),
-    /// A runner's lines in, the reference's answers out.
+    /// Reads a runner's lines, and writes the reference's replies.
     Play,
 }
 
@@ -29,8 +29,8 @@ pub enum Asked {
     Version,
 }
 
-/// What the words ask for, the first of which is the program's name: a subcommand by its name, the help text,
-/// also by an option behind a subcommand, or the version. Other words are no use of the program.
+/// Returns what the words ask for; the first one is the program's name. They name a subcommand, or ask for the help
+/// text or the version. An option after a subcommand may also ask for help. Other words return `None`.
 pub fn read_words(words: &[String]) -> Option<Asked>
     ensures { result ≡ asked_of_canhold (texts_of words.now) }
 {
@@ -55,7 +55,7 @@ fn read_word(word: &str) -> Option<Asked>
     }
 }
 
-/// What a subcommand and an option behind it ask for.
+/// What a subcommand and an option after it ask for.
 fn read_option(word: &str, option: &str) -> Option<Asked>
     ensures { result ≡ canhold_words word.now option.now }
 {

@@ -55,7 +55,7 @@ module _ (number bits : ℕ) (d : Data) where
 
 -- ---- a case
 
--- what a case has to meet behind its lists, behind the tester, behind the head, and behind the name
+-- what a case has to meet after its lists, after the tester, after the head, and after the name
 abbrev behind_lists : ℕ → Data → Demands KitField
 behind_lists number d = demand (in_case number of_case.Needs) ((needs : Needs) × NeedsAll d needs) no_demands
 

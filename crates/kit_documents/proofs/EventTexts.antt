@@ -7,13 +7,13 @@ use Rattle.can_mac.specs.declared.event.Event.{Event}
 use Rattle.can_mac.specs.declared.event.Event.TheVariants.{Sent, Received, Lost, Error, Overload, WentOff, Recovered}
 use Rattle.kit_documents.specs.Events.{event_text, event_frame, SaysEvent}
 
--- a frame's text behind a word
+-- a frame's text after a word
 pub frame-behind : (text word rest : List ℕ) (o : Option Parts) → text ≡ word ++ rest → MatchOption o ((f : Parts) → IsFrame f → rest ≢ frame_text f) (λ f. IsFrame f × (rest ≡ frame_text f))
     → MatchOption o ((f : Parts) → IsFrame f → text ≢ word ++ frame_text f) (λ f. IsFrame f × (text ≡ word ++ frame_text f))
 frame-behind text word rest None is none = λ f frame same. none f frame (append_cancel_left word rest (frame_text f) (sym is ∙ same))
 frame-behind text word rest (Some f) is said = (said.0, is ∙ ap (λ r. word ++ r) said.1)
 
--- a text that says neither that a frame was sent nor that one was received says an event of words alone, or none
+-- a text that is neither of a sent nor of a received frame is that of an event of words only, or of no event
 module _ (text : List ℕ) (sent : (f : Parts) → IsFrame f → text ≢ codes "sent " ++ frame_text f) (received : (f : Parts) → IsFrame f → text ≢ codes "received " ++ frame_text f) where
   none_said : ((event : Event) → event_frame event ≡ None → text ≢ event_text event) → (event : Event) → SaysEvent text event → ⊥
   none_said none (Sent f) says = sent f says.frame says.text_is

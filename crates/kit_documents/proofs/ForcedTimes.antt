@@ -58,7 +58,7 @@ module _ (number : ℕ) (strings : List Data) (levels : List Level) (said : SayS
         recessive-unmet (from + 1) ds times place at (omega (arith, is)) (omega (arith, within)) other (All-tail (λ time. slice_get levels time ≡ Some Recessive) time (take place times) before) pairs.1,
       )
 
--- the tester does something in as many bit times, whichever of them are forced
+-- forcing bit times keeps their number
 pub length-forced : (times : List ℕ) (levels : List TesterLevel) → length (forced_at times levels) ≡ length levels
 length-forced [] levels = refl
 length-forced (time ∷ times) levels = length-forced times (set levels time tester.Forced) ∙ length-set levels time tester.Forced

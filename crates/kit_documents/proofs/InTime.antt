@@ -12,7 +12,7 @@ use Rattle.document_values.specs.Values.{ArePaired}
 use Rattle.document_values.proofs.ReadLists.{IsRead, IsRead-more, unmet-next, met-all, said-all}
 use Rattle.kit_documents.specs.Lists.{element_demands, elements_demands, time_in, IsInTime}
 
--- the next time has to be this one at least: none is before, or it is so far behind one of them
+-- the next time has to be at least this one: no element is before, or it is `apart` later than one of them
 pub record IsLeast (apart : ℕ) (before : List Data) (least : ℕ) : Type 0 where
   pub above : All (λ e. time_in e + apart ≤ least) before
   pub reached : (least ≡ 0) ⊎ ((e : Data) × Contains before e × (time_in e + apart ≡ least))
@@ -30,7 +30,7 @@ in_time end apart before least d is late within = record {
   behind = All-weaker (λ e. time_in e + apart ≤ least) (λ e. time_in e + apart ≤ time_in d) (λ e h. omega (arith, h, late)) before is.above;
 }
 
--- another isn't
+-- an earlier one is not
 pub not_in_time : (end apart : ℕ) (before : List Data) (least : ℕ) (d : Data) → IsLeast apart before least → (time_in d < least) ⊎ (end ≤ time_in d) → IsInTime end apart before d → ⊥
 not_in_time end apart before least d is (inr late) in_time = let within = in_time.within in omega (arith, late, within)
 not_in_time end apart before least d is (inl early) in_time = elim is.reached [

@@ -14,7 +14,7 @@ use Rattle.kit_documents.specs.LevelTexts.{AddsLevels}
 use Rattle.kit_documents.proofs.ReadPieces.{adds-few, take-joined}
 use Rattle.kit_documents.specs.Lists.{string_demands, strings_demands, SaysString, SayStrings, SayUpTo}
 
--- some levels behind others
+-- lists of levels, joined
 pub joined : List (List Level) → List Level
 joined [] = []
 joined (first ∷ rest) = first ++ joined rest
@@ -69,7 +69,7 @@ strings-said values most place levels past are =
     let pairs = said-all (string_demands (λ place. Document)) SaysString values place are.parts past (are.read (λ place. Document)) in
     (joined are.parts, strings-joined (map view values) are.parts pairs, are.all)
 
--- where there was room for more, these are all
+-- if there was space for more, these are all
 pub all-said : (ds : List Data) (most : ℕ) (levels : List Level) → length levels < most → SayUpTo most ds levels → SayStrings ds levels
 all-said ds most levels room said =
     let few : length said.0 ≤ most = omega (arith, room, ap length said.2, length-take most said.0) in

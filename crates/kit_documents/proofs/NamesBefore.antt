@@ -1,4 +1,4 @@
--- The names of the cases before one, kept in order.
+-- The names of the cases before one, in a set.
 use denote.Ref.{Bor}
 use Rattle.std.specs.BTreeSet.{BTreeSet, IsEmpty, Updates}
 use Rattle.std.specs.Cmp.Lexicographic.{slice_cmp}

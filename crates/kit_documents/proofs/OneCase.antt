@@ -1,4 +1,4 @@
--- A table says one case.
+-- A table describes at most one case.
 use Rattle.std.specs.String.{string_bytes}
 use Rattle.std.proofs.Common.{◌≡◌, ℕ, pos, List, [], ◌∷◌, map, codes, if◌then◌else◌, Option, Some, None, refl, sym, ap, subst, ◌∙◌}
 use Rattle.std.specs.Str.{bytes_eq}
@@ -74,7 +74,7 @@ same_choices (x ∷ xs) (y ∷ ys) e =
 one-choices : (field : Option Data) (a b : List Choice) → SaysChoices field a → SaysChoices field b → a ≡ b
 one-choices field a b x y = same_choices a b (sym x.said ∙ y.said)
 
--- ---- what comes at its time
+-- ---- lists
 
 one-offer : (d : Data) (a b : Timed Parts) → SaysOffer d a → SaysOffer d b → a ≡ b
 one-offer d a b x y =

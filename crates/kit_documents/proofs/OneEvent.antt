@@ -1,4 +1,4 @@
--- A text says at most one event, and a word is that of one state: they are told by letters of the text.
+-- A text is that of at most one event, and a word that of at most one state: letters of the text distinguish them.
 use Rattle.std.proofs.Common.{◌≡◌, ℕ, ◌+◌, ◌*◌, nat_eq, if◌then◌else◌, false, List, [], ◌++◌, codes, get_or, refl, sym, ap, subst, ◌∙◌}
 use Rattle.std.proofs.lemmas.List.{append_cancel_left}
 use Rattle.can_frame.specs.Parts.{Parts, IsFrame}
@@ -45,7 +45,7 @@ one-state s t same = state_told s ∙ ap (λ (word : List ℕ). state_from (get_
 abbrev letters : List ℕ → ℕ
 letters text = 256 * get_or text 0 0 + get_or text 3 0
 
--- the frame and the kind of error that an event tells of, these where it tells of none
+-- the frame and the kind of error of an event, and these if it has none
 abbrev frame_of : Parts → Event → Parts
 frame_of f (Sent g) = g
 frame_of f (Received g) = g

@@ -1,4 +1,4 @@
--- What the needs of a case say, in one way.
+-- The words of a case determine its needs.
 use Rattle.std.proofs.Common.{◌≡◌, ℕ, Bool, true, false, List, [], ◌∷◌, ◌++◌, map, codes, if◌then◌else◌, Option, refl, sym, ap, subst, ◌∙◌}
 use Rattle.toml.specs.Data.{Data, string}
 use Rattle.document_values.specs.Values.{named}
@@ -35,7 +35,7 @@ no_hold n =
 no_queue : (n : Needs) → IsNotFirst (codes "queue") (recovery_word n)
 no_queue n = not_first-last (codes "queue") (codes "recovery") n.recovery (differ (codes "queue") (codes "recovery") refl)
 
--- words say needs in one way
+-- words determine the needs
 pub needs-same : (a b : Needs) → map string (need_words a) ≡ map string (need_words b) → a ≡ b
 needs-same a b e =
     let first = same_head (codes "forced") a.forced b.forced (hold_words a) (hold_words b) (no_forced a) (no_forced b) e in
@@ -49,6 +49,6 @@ needs-same a b e =
 pub one-needs : (field : Option Data) (a b : Needs) → SaysNeeds field a → SaysNeeds field b → a ≡ b
 one-needs field a b x y = needs-same a b (sym x.said ∙ y.said)
 
--- needs that a case says have all where others that it says have
+-- if one reading of the needs includes all that is required, so does each
 pub needs-all : (d : Data) (a b : Needs) → SaysNeeds (named (codes "needs") d) a → NeedsAll d b → NeedsAll d a
 needs-all d a b said all = subst (NeedsAll d) (one-needs (named (codes "needs") d) b a all.said said) all

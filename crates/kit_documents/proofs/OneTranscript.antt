@@ -1,4 +1,4 @@
--- A table says one transcript.
+-- A table describes at most one transcript.
 use Rattle.std.proofs.Common.{◌≡◌, ℕ, pos, List, codes, Option, Some, None, Vec, Global, sym, ap, subst, ◌∙◌}
 use Rattle.toml.specs.Data.{Data, string, integer}
 use Rattle.can_conform.specs.declared.timed.Timed.{Timed}

@@ -1,4 +1,4 @@
--- The first of some tables that says a text.
+-- The first of some tables with a text.
 use Rattle.std.specs.List.{position, position_or_len}
 use Rattle.std.specs.Str.{bytes_eq}
 use Rattle.std.proofs.Common.{◌≡◌, ℕ, List, [], ◌∷◌, map, refl}

@@ -1,4 +1,4 @@
--- What the pieces of a text say.
+-- The levels of the pieces of a text.
 use Rattle.std.specs.Str.{bytes_eq}
 use Rattle.std.proofs.lemmas.Bool.{cases_lt, false≢true}
 use Rattle.std.proofs.lemmas.Slice.Eq.{bytes_eq-Decides}
@@ -34,7 +34,7 @@ one-run piece xs ys a b =
     let levels : a.level ≡ b.level = one-digit a.level b.level digits in
     a.all ∙ ap (λ n. replicate n a.level) counts ∙ ap (λ x. replicate b.count x) levels ∙ sym b.all
 
--- a piece says levels in one way
+-- a piece has levels in one way
 pub one-piece : (piece : List ℕ) (xs ys : List Level) → SaysPiece piece xs → SaysPiece piece ys → xs ≡ ys
 one-piece piece xs ys (inl a) (inl b) = one-digits xs ys (sym a ∙ b)
 one-piece piece xs ys (inl a) (inr b) = absurd (no-run (digit_of b.level) (decimal b.count) xs (sym a ∙ b.text))
@@ -48,7 +48,7 @@ one-pieces (piece ∷ pieces) xs ys a b =
     let rests : a.1 ≡ b.1 = one-pieces pieces a.1 b.1 a.3 b.3 in
     a.4 ∙ ap (λ l. l ++ a.1) firsts ∙ ap (λ l. b.0 ++ l) rests ∙ sym b.4
 
--- a text says levels in one way
+-- a text has levels in one way
 pub one-levels : (text : List ℕ) (xs ys : List Level) → SaysLevels text xs → SaysLevels text ys → xs ≡ ys
 one-levels text xs ys a b = one-pieces (pieces_of text) xs ys a.pieces b.pieces
 
@@ -62,9 +62,9 @@ no-count digits count low is out n some few same =
     let equal : count ≡ n = decimal_injective count n (omega (arith, low)) (omega (arith, few)) (sym is ∙ same) in
     elim out [ inl zero ↦ omega (arith, zero, equal, some) | inr many ↦ omega (arith, many, equal, few) ]
 
--- ---- as many as there is room for
+-- ---- at most `most` levels
 
--- what was left out before is left out behind
+-- what was left out of the first list stays left out
 pub take-joined : (most : ℕ) (xs ys : List Level) → take most (take most xs ++ ys) ≡ take most (xs ++ ys)
 take-joined most xs ys = elim (cases_lt most (length xs)) [
   | inl many ↦
@@ -77,7 +77,7 @@ take-joined most xs ys = elim (cases_lt most (length xs)) [
 pub take-few : (most : ℕ) (xs : List Level) → length (take most xs) ≤ most
 take-few most xs = omega (arith, length-take most xs)
 
--- so many of these digits are read
+-- the first `place` digits are read
 abbrev pub AreRead : List ℕ → ℕ → ℕ → List Level → List Level → Type 0
 AreRead digits place most before after = AddsLevels (λ read. take place digits ≡ map digit_of read) most before after
 
@@ -122,7 +122,7 @@ read-all digits place most before after past are = record { read = are.read; sai
 pub not-written : (digits written : List ℕ) (number n : ℕ) → written ≡ decimal number → bytes_eq written digits ≡ false → number ≡ n → digits ≢ decimal n
 not-written digits written number n text other is same = false≢true (sym other ∙ (bytes_eq-Decides written digits).1 (text ∙ ap decimal is ∙ sym same))
 
--- what is neither a run nor digits of levels says none
+-- what is neither a run nor digits of levels has no levels
 pub no-piece : {E : Type 0} (r : Result Bool E) (piece digits : List ℕ) → digits ≡ piece → ((levels : List Level) → IsRunToken piece levels → ⊥)
     → IfOk r (λ said. said ≡ false → (read : List Level) → digits ≢ map digit_of read) → IfOk r (λ said. said ≡ false → (read : List Level) → SaysPiece piece read → ⊥)
 no-piece (Err e) piece digits is no_run none = tt

@@ -34,7 +34,7 @@ some-none most before few = record {
   any = refl;
 }
 
--- a piece says a level where it is not empty
+-- a piece has a level if it is not empty
 piece-some : (piece : List ℕ) (read : List Level) → SaysPiece piece read → 0 < length piece → 0 < length read
 piece-some piece read (inl literal) longer = omega (arith, longer, ap length literal, length-map read digit_of)
 piece-some piece read (inr run) longer = omega (arith, run.some, ap length run.all, length-replicate run.count run.level)
@@ -67,13 +67,13 @@ some-here pieces piece most before between after false is are more =
       any = omega (arith, piece-some piece more.read more.said some, length-append are.adds.read more.read);
     }
 
--- where one piece says no levels, all together say none
+-- if one piece is not one of levels, nor are all together
 pub pieces-other : (pieces : List (List ℕ)) (place : ℕ) (piece : List ℕ) → place < length pieces → piece ≡ get_or pieces place piece → ((read : List Level) → SaysPiece piece read → ⊥) → (read : List Level) → SayPieces pieces read → ⊥
 pieces-other [] place piece within is none read said = absurd (omega (arith, within))
 pieces-other (first ∷ pieces) zero piece within is none read said = none said.0 (subst (λ p. SaysPiece p said.0) (sym is) said.2)
 pieces-other (first ∷ pieces) (suc place) piece within is none read said = pieces-other pieces place piece (omega (arith, within)) is none said.1 said.3
 
--- a text says what its pieces say, if these are levels at all
+-- a text has the levels of its pieces, if it has any
 pub text-said : (text : List ℕ) (most : ℕ) (before after : List Level) → AreSome (pieces_of text) most before after true → AddsLevels (SaysLevels text) most before after
 text-said text most before after are = record {
   read = are.adds.read;
@@ -86,7 +86,7 @@ text-none text most before after are levels says =
     let same : are.adds.read ≡ levels = one-pieces (pieces_of text) are.adds.read levels are.adds.said says.pieces in
     omega (arith, are.any, says.some, ap length same)
 
--- a run is read as far as there is room
+-- a run is read until there are `most` levels
 pub run-said : (piece : List ℕ) (most : ℕ) (before after : List Level) (level : Level) (count : ℕ) → length before ≤ most → after ≡ before ++ replicate (min (most - length before) count) level → IsRunToken piece (replicate count level)
     → AddsLevels (SaysPiece piece) most before after
 run-said piece most before after level count few all is =

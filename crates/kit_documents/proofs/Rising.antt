@@ -47,7 +47,7 @@ module _ {A : Type 0} (Says : Data → Timed A → Type 0) (timely : (d : Data) 
       let within = element.3.within in
       omega (arith, within, low, element.2)
 
--- a list of a transcript has times that rise, and that a number of 32 bits tells
+-- a list of a transcript has rising times of 32 bits
 module _ {A : Type 0} (Says : Data → Timed A → Type 0) (timely : (d : Data) (x : Timed A) → Says d x → time_in d ≡ x.time) (named : ℕ → KitField) where
   pub list-rising : (field : Option Data) (read : Option (Vec (Timed A) Global)) → AllMet (elements_demands named Says time_end 1 (elements_in field))
       → SaysIfThere (λ list xs. ArePaired Says (elements list) xs.items) field read → IfSome read (λ xs. AreRising xs.items)

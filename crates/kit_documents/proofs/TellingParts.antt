@@ -1,4 +1,4 @@
--- What a transcript tells, read part by part.
+-- What a transcript lists, read part by part.
 use Rattle.std.proofs.Common.{◌≡◌, ℕ, Option, Some, codes, refl, ap, subst, inl}
 use Rattle.toml.specs.Data.{Data}
 use Rattle.can_conform.specs.declared.timed.Timed.{Timed}
@@ -46,7 +46,7 @@ module _ (number : ℕ) (d : Data) where
   telling-met drove events counters end =
       met-followed (drove_demands number d) _ drove (met-followed (transcript_list_demands Events SaysEventAt number d) _ events (met-followed (transcript_list_demands Counters SaysChange number d) _ counters end))
 
--- an end that is there and says none isn't as it has to be
+-- an end that is not a valid one violates the demand
 pub end-none : (number : ℕ) (d value : Data) → named (codes "end") d ≡ Some value → ((end : Ending) → SaysEnd value end → ⊥) → IsFirstUnmet (in_transcript number of_transcript.End) (end_demands number d)
 end-none number d value is none =
     inl (refl, λ met. let end = subst (λ (field : Option Data). IsOptional (λ v. (e : Ending) × SaysEnd v e) field) is met in none end.0 end.1)

@@ -1,4 +1,4 @@
--- The tester's levels: they are one list, as long as the case says.
+-- The tester's levels: they are one list, as long as the case.
 use Rattle.std.proofs.Common.{◌≡◌, ◌≢◌, ℕ, List, [], ◌∷◌, ◌++◌, length, codes, refl, sym, ap, subst, ◌∙◌, inl, inr}
 use Rattle.toml.specs.Data.{Data, string}
 use Rattle.can_frame.specs.declared.level.Level.{Level}
@@ -19,7 +19,7 @@ one-string d xs ys a b =
     let texts : a.0 ≡ b.0 = cc in
     one-levels b.0 xs ys (subst (λ (text : List ℕ). SaysLevels text xs) texts a.2) b.2
 
--- strings say levels in one way
+-- strings have levels in one way
 pub one-strings : (ds : List Data) (xs ys : List Level) → SayStrings ds xs → SayStrings ds ys → xs ≡ ys
 one-strings [] xs ys a b = a ∙ sym b
 one-strings (d ∷ ds) xs ys a b =

@@ -1,5 +1,4 @@
--- The places of the cases that no transcript is of yet, by their names: what they are with one case more, and with one
--- transcript more.
+-- The numbers of the cases without a transcript, by name: with one case more, and with one transcript more.
 use denote.Ref.{Bor}
 use Rattle.std.specs.BTreeMap.{BTreeMap, Updates, UpdatesBy}
 use Rattle.std.specs.Cmp.Lexicographic.{slice_cmp}
@@ -22,7 +21,7 @@ use Rattle.kit_documents.specs.Untold.{place_at, with_place, HasUntold}
 
 -- ---- the first place in a list with one element more
 
--- this place, or else that one
+-- this place, or that one if there is none
 or_place : Option ℕ → Option ℕ → Option ℕ
 or_place None other = other
 or_place (Some place) other = Some place
@@ -94,7 +93,7 @@ twice : {X : Type 0} (b : Bool) (x y z : X) → cond b x (cond b y z) ≡ cond b
 twice true x y z = refl
 twice false x y z = refl
 
--- a name that had no place has this one
+-- a name that had no number has this one
 pub place-new : (old new : BTreeMap (Bor (List ℕ)) ℕ) (name : Bor (List ℕ)) (place : ℕ) → None ≡ place_at old name.now
     → Updates (λ a b. slice_cmp nat_cmp a.now b.now) old new name (Some place)
     → (text : List ℕ) → place_at new text ≡ with_place (place_at old) name.now place text
@@ -102,7 +101,7 @@ place-new old new name place none updates text =
     btree_map_updates_str name.now old new (Some place) updates text
     ∙ ap (λ o. cond (bytes_eq name.now text) (Some (unwrap_or o place)) (place_at old text)) none
 
--- one that had a place is given it back
+-- a name that had a number keeps it
 pub place-back : (old new back : BTreeMap (Bor (List ℕ)) ℕ) (name : Bor (List ℕ)) (place first : ℕ) → Some first ≡ place_at old name.now
     → Updates (λ a b. slice_cmp nat_cmp a.now b.now) old new name (Some place)
     → Updates (λ a b. slice_cmp nat_cmp a.now b.now) new back name (Some first)
@@ -115,7 +114,7 @@ place-back old new back name place first known updates again text =
 
 -- ---- transcripts
 
--- without the case that one transcript more is of
+-- without the case of the added transcript
 pub untold-told : (places more : BTreeMap (Bor (List ℕ)) ℕ) (cases earlier : List Data) (d : Data) (said : Bor (List ℕ)) → said.now ≡ case_of d
     → UpdatesBy (λ a b. slice_cmp nat_cmp a.now b.now) (λ key. slice_cmp nat_cmp said.now key.now) places more None
     → HasUntold places cases earlier → HasUntold more cases (earlier ++ d ∷ [])
@@ -140,7 +139,7 @@ untold-told places more cases earlier d said says updates before = λ text.
 
 -- ---- values
 
--- the tables up to a place and that at it
+-- the tables before a place, and that at it
 pub tables-more : (values : List Value) (place : ℕ) (value : Value) → place < length values → value ≡ get_or values place value
     → map view (take (place + 1) values) ≡ map view (take place values) ++ view value ∷ []
 tables-more values place value within is =

@@ -18,7 +18,7 @@ use Rattle.kit_documents.specs.CaseWords.{choice_word, need_words, SaysStart, Ta
 
 -- ---- choices
 
--- where one element is no choice's word, the elements are not those of choices
+-- if one element is no word of a choice, the elements are not those of choices
 pub choices-other : (values : List Value) (place : ℕ) (value : Value) → place < length values → value ≡ get_or values place value → ((choice : Choice) → view value ≢ string (choice_word choice))
     → (choices : List Choice) → map view values ≢ map string (map choice_word choices)
 choices-other [] place value within is none choices same = absurd (omega (arith, within))
@@ -41,7 +41,7 @@ unfolding IsNotFirst
 not_first-other word other false more differ none = none
 not_first-other word other true more differ none = λ rest e. differ (let same : word ≡ other = cc in same)
 
--- what is left of the words behind one of them
+-- what is left of the words after one of them
 behind : (word : List ℕ) (ds rest : List Data) (b said : Bool) (more : List (List ℕ)) → IsNotFirst word more → TakesWord word ds b rest → ds ≡ map string ((if said then word ∷ [] else []) ++ more) → rest ≡ map string more
 unfolding IsNotFirst
 behind word ds rest true true more none takes is = let both : string word ∷ rest ≡ string word ∷ map string more = sym takes ∙ is in cc
@@ -102,7 +102,7 @@ pub names-taken : (name : List ℕ) (values : List Value) → list_any (λ value
 names-taken name [] = refl
 names-taken name (value ∷ values) = rw (is_eq-slice_cmp name (case_name (view value)), names-taken name values)
 
--- a name that begins with the family and something else
+-- a name that begins with the family and something more
 pub begins-on : (name family rest : List ℕ) (b : Bool) → name ≡ family ++ rest → MatchBool b ((more : List ℕ) × (rest ≡ 45 ∷ more)) ((more : List ℕ) → rest ≢ 45 ∷ more)
     → MatchBool b ((more : List ℕ) × (name ≡ family ++ (45 ∷ more))) ((more : List ℕ) → name ≢ family ++ (45 ∷ more))
 begins-on name family rest true is found = (found.0, is ∙ ap (λ r. family ++ r) found.1)

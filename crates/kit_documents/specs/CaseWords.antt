@@ -1,4 +1,4 @@
--- The words of a case's table: names, what is known of a bench, choices. (docs/CONFORMANCE.md, "Documents")
+-- The words of a case's table: texts, start, needs and choices. (docs/CONFORMANCE.md, "Documents")
 use Rattle.std.specs.Prelude.{ℕ, ◌≡◌, ◌≢◌, MatchBool, ◌==◌, ◌≤◌, Bool, true, not, if◌then◌else◌, List, [], ◌∷◌, ◌++◌, length, map, Option, Some, codes}
 use Rattle.std.specs.List.{list_all}
 use Rattle.toml.specs.Data.{Data, string}
@@ -11,27 +11,28 @@ use Rattle.kit_documents.specs.declared.cases.words.Choice.TheVariants.{Reserved
 
 -- ---- texts
 
--- a string with this text
+-- A string whose text meets P.
 abbrev pub IsText : (List ℕ → Type 0) → Data → Type 0
 IsText P d = (text : List ℕ) × (d ≡ string text) × P text
 
--- the text of a field, none where it has none
+-- The text of a field; empty if there is none, or if it is not a string.
 abbrev pub field_text : Option Data → List ℕ
 field_text (Some (string text)) = text
 field_text _ = []
 
--- one line of at most 200 bytes
+-- A purpose is one line of at most 200 bytes.
 pub record IsPurpose (text : List ℕ) : Type 0 where
   pub few : length text ≤ 200
   pub one_line : list_all (λ byte. not (byte == 10)) text ≡ true
 
 -- ---- words
 
+-- the word for a start
 abbrev pub start_word : Start → List ℕ
 start_word Idle = codes "idle"
 start_word Joining = codes "joining"
 
--- what a bench has to be able to do, in this order
+-- the words for these needs, in this order
 abbrev pub need_words : Needs → List (List ℕ)
 need_words n =
     (if n.forced then codes "forced" ∷ [] else []) ++
@@ -39,6 +40,7 @@ need_words n =
     ((if n.queue then codes "queue" ∷ [] else []) ++
     (if n.recovery then codes "recovery" ∷ [] else [])))
 
+-- the word for a choice
 abbrev pub choice_word : Choice → List ℕ
 choice_word ReservedLevels = codes "reserved-levels"
 choice_word StuffException = codes "stuff-exception"
@@ -50,26 +52,26 @@ choice_word RecoveryByItself = codes "recovery-by-itself"
 choice_word RecoveryRows = codes "recovery-rows"
 choice_word Prompt = codes "prompt"
 
--- ---- what they say
+-- ---- values
 
--- the word for this start
+-- The value is the word for this start.
 abbrev pub SaysStart : Data → Start → Type 0
 SaysStart d start = d ≡ string (start_word start)
 
--- an array of these words; where it is left out there are none
+-- An array of these words. If it is left out, there are none.
 pub record AreWords (words : List (List ℕ)) (field : Option Data) : Type 0 where
   pub list : IsOptional IsArray field
   pub said : elements_in field ≡ map string words
 
--- the words for these needs
+-- An array of the words for these needs.
 abbrev pub SaysNeeds : Option Data → Needs → Type 0
 SaysNeeds field needs = AreWords (need_words needs) field
 
--- the words for these choices
+-- An array of the words for these choices.
 abbrev pub SaysChoices : Option Data → List Choice → Type 0
 SaysChoices field choices = AreWords (map choice_word choices) field
 
--- whether the list begins with this word, and what stands behind it: all of the list where it doesn't
+-- Whether the list begins with this word, and the rest after it; the whole list if it does not.
 abbrev pub TakesWord : List ℕ → List Data → Bool → List Data → Type 0
 TakesWord word ds taken rest =
     MatchBool taken (ds ≡ string word ∷ rest)

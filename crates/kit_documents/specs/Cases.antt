@@ -1,5 +1,5 @@
--- Cases: what a case's table has to meet, in the order in which it is tested, and which case it says.
--- (docs/CONFORMANCE.md, "Documents")
+-- The demands on a case's table, in the order of the tests, and the case that it describes. (docs/CONFORMANCE.md,
+-- "Documents")
 use Rattle.std.specs.Prelude.{ℕ, ◌≡◌, ◌⊎◌, ◌≤◌, ◌<◌, true, false, List, [], ◌∷◌, ◌++◌, length, map, take, Some, set, codes}
 use Rattle.std.specs.List.{list_any}
 use Rattle.std.specs.String.{string_bytes}
@@ -23,29 +23,30 @@ use Rattle.kit_documents.specs.CaseWords.{field_text, IsPurpose, IsText, SaysCho
 use Rattle.kit_documents.specs.declared.cases.lists.CaseList.TheVariants.{Offers, Holds, Forced}
 use Rattle.kit_documents.specs.Lists.{case_list_demands, time_in, strings_demands, AreRecessive, IsArrayOf, SaysHold, SaysOffer, SayStrings, SaysTime}
 
--- something of the case of this number
+-- a part of the case with this number
 abbrev pub in_case : ℕ → CaseField → KitField
 in_case number part = field.Case number part
 
 -- ---- the head of a case
 
+-- the fields that a case may have
 abbrev pub case_fields : List (List ℕ)
 case_fields =
     codes "version" ∷ codes "name" ∷ codes "family" ∷ codes "purpose" ∷ codes "start" ∷ codes "needs" ∷ codes "choices" ∷
     codes "bits" ∷ codes "tester" ∷ codes "offers" ∷ codes "holds" ∷ codes "forced" ∷ []
 
--- the name that a case's table says
+-- the name in a case's table
 abbrev pub case_name : Data → List ℕ
 case_name d = field_text (named (codes "name") d)
 
--- a name that begins with the family and a hyphen, and that none of the cases before has
+-- A new name begins with the family and a hyphen, and none of the cases before has it.
 pub record IsNewCaseName (earlier : List Data) (family name : List ℕ) : Type 0 where
   pub word : IsKitName longest_name name
   pub rest : List ℕ
   pub begins : name ≡ family ++ (45 ∷ rest)
   pub new : list_any (λ other. same_key name (case_name other)) earlier ≡ false
 
--- which version it has and what it is named, behind these cases
+-- Version, family, name and purpose of a case after these cases.
 abbrev pub case_naming_demands : List Data → ℕ → Data → Demands KitField
 case_naming_demands earlier number d =
     demand (in_case number of_case.Version) (IsRequired (IsNumber 1) (named (codes "version") d))
@@ -55,15 +56,15 @@ case_naming_demands earlier number d =
     (demand (in_case number of_case.Purpose) (IsOptional (IsText IsPurpose) (named (codes "purpose") d))
     no_demands)))
 
--- how many bit times a case may have
+-- the maximum number of bit times of a case
 abbrev pub longest_case : ℕ
 longest_case = 100000
 
--- how many bit times a case has
+-- A number of bit times, 1 to `longest_case`.
 abbrev pub IsLength : Data → Type 0
 IsLength d = (n : ℕ) × IsNumber n d × (0 < n) × (n ≤ longest_case)
 
--- how it starts, what it needs, which choices it rests on, and how long it is
+-- Start, needs, choices and number of bit times.
 abbrev pub head_demands : ℕ → Data → Demands KitField
 head_demands number d =
     demand (in_case number of_case.Start) (IsRequired (λ start. (s : Start) × SaysStart start s) (named (codes "start") d))
@@ -74,7 +75,7 @@ head_demands number d =
 
 -- ---- the tester
 
--- how many bit times a case's table says
+-- the number of bit times in a case's table
 abbrev pub case_bits : Data → ℕ
 case_bits d = field_number (named (codes "bits") d)
 
@@ -82,7 +83,7 @@ case_bits d = field_number (named (codes "bits") d)
 abbrev pub strings_of : Data → List Data
 strings_of d = elements_in (named (codes "tester") d)
 
--- 1 to 4096 strings, whose levels together are as many as the case has bit times
+-- The tester has 1 to 4096 strings, which together have one level for each bit time of the case.
 abbrev pub tester_demands : ℕ → Data → Demands KitField
 tester_demands number d =
     demand (in_case number of_case.Tester) (IsRequired (IsArrayOf 1 4096) (named (codes "tester") d))
@@ -92,15 +93,15 @@ tester_demands number d =
     × IsRequired (IsNumber (length levels)) (named (codes "bits") d))
     no_demands))
 
--- ---- what comes at its time
+-- ---- lists
 
--- the tester is recessive at a forced time
+-- The tester is recessive at a forced time.
 abbrev pub forced_demands : ℕ → List Data → ℕ → Data → Demands KitField
 forced_demands number strings place d =
     demand (in_case number (of_case.ForcedTime place)) (AreRecessive strings (time_in d))
     no_demands
 
--- offers, wishes, and forced bit times of a case of so many bit times
+-- Offers, overload requests and forced bit times of a case with this number of bit times.
 abbrev pub lists_demands : ℕ → ℕ → Data → Demands KitField
 lists_demands number bits d =
     followed (case_list_demands Offers SaysOffer number bits d)
@@ -108,7 +109,7 @@ lists_demands number bits d =
     (followed (case_list_demands Forced SaysTime number bits d)
     (demands_on_each (forced_demands number (strings_of d)) 0 (elements_in (named (codes "forced") d)))))
 
--- what a case asks of a bench is among its needs
+-- The needs include `forced` if that list is not empty, and `hold` if `holds` is not.
 pub record NeedsAll (d : Data) (needs : Needs) : Type 0 where
   pub said : SaysNeeds (named (codes "needs") d) needs
   pub forced : (needs.forced ≡ true) ⊎ (elements_in (named (codes "forced") d) ≡ [])
@@ -116,7 +117,7 @@ pub record NeedsAll (d : Data) (needs : Needs) : Type 0 where
 
 -- ---- a case
 
--- the fields of a case's table, behind these cases
+-- All fields of a case's table, after these cases.
 abbrev pub case_fields_demands : List Data → ℕ → Data → Demands KitField
 case_fields_demands earlier number d =
     demand (in_case number of_case.Unknown) (are_known case_fields (members_in d) ≡ true)
@@ -126,27 +127,27 @@ case_fields_demands earlier number d =
     (followed (lists_demands number (case_bits d) d)
     (demand (in_case number of_case.Needs) ((needs : Needs) × NeedsAll d needs) no_demands)))))
 
--- a case's table
+-- A case's table, after these cases.
 abbrev pub case_demands : List Data → ℕ → Data → Demands KitField
 case_demands earlier number d = demand (in_case number of_case.Table) (IsTable d) (case_fields_demands earlier number d)
 
--- the tables of all cases
+-- The tables of all cases, each after those before it.
 abbrev pub cases_demands : List Data → Demands KitField
 cases_demands ds = demands_on_each (λ number d. case_demands (take number ds) number d) 0 ds
 
--- ---- which case it says
+-- ---- the case
 
 -- the tester drives this level
 abbrev pub tester_level : Level → TesterLevel
 tester_level Dominant = tester.Dominant
 tester_level Recessive = tester.Recessive
 
--- the same, forced at these times
+-- The tester's levels, forced at these times.
 abbrev pub forced_at : List ℕ → List TesterLevel → List TesterLevel
 forced_at [] levels = levels
 forced_at (time ∷ times) levels = forced_at times (set levels time tester.Forced)
 
--- what the tester does: the levels of its strings, at some times forced
+-- What the tester does: the levels of its strings, forced at the times of the list.
 pub record SaysTester (d : Data) (does : List TesterLevel) : Type 0 where
   pub levels : List Level
   pub strings : SayStrings (strings_of d) levels
@@ -154,7 +155,7 @@ pub record SaysTester (d : Data) (does : List TesterLevel) : Type 0 where
   pub forced : ArePaired SaysTime (elements_in (named (codes "forced") d)) times
   pub all : does ≡ forced_at times (map tester_level levels)
 
--- the table says this case
+-- The table describes this case.
 pub record SaysCase (d : Data) (c : Case) : Type 0 where
   pub name : named (codes "name") d ≡ Some (string (string_bytes c.name))
   pub needs : SaysNeeds (named (codes "needs") d) c.needs
@@ -164,7 +165,7 @@ pub record SaysCase (d : Data) (c : Case) : Type 0 where
   pub offers : ArePaired SaysOffer (elements_in (named (codes "offers") d)) c.script.offers.items
   pub holds : ArePaired SaysHold (elements_in (named (codes "holds") d)) c.script.holds.items
 
--- the cases are the same
+-- The two cases are equal.
 pub record AreSameCases (a b : Case) : Type 0 where
   pub name : string_bytes a.name ≡ string_bytes b.name
   pub needs : a.needs ≡ b.needs

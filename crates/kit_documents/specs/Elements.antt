@@ -1,4 +1,5 @@
--- The parts of a transcript's table: events and counters with their times, and the end. (docs/CONFORMANCE.md, "Documents")
+-- Elements of a transcript's table: events and counters with their times, and the end. (docs/CONFORMANCE.md,
+-- "Documents")
 use Rattle.std.specs.Prelude.{ℕ, ◌≡◌, ◌≤◌, pos, codes, List, Option, Some, None}
 use Rattle.toml.specs.Data.{Data, string, integer}
 use Rattle.can_conform.specs.declared.timed.Timed.{Timed}
@@ -17,36 +18,36 @@ use Rattle.kit_documents.specs.declared.field.TranscriptField.TheVariants as of_
 use Rattle.kit_documents.specs.declared.transcripts.lists.TranscriptList.{TranscriptList}
 use Rattle.kit_documents.specs.declared.transcripts.lists.TranscriptList.TheVariants as list
 
--- ---- what elements say
+-- ---- elements
 
--- an array of this time and the text of this event
+-- An event is an array of its time and its text.
 abbrev pub SaysEventAt : Data → Timed Event → Type 0
 SaysEventAt d event = (text : List ℕ) × (d ≡ two (integer (pos event.time)) (string text)) × SaysEvent text event.told
 
--- the highest count that is told
+-- the highest count of a transcript
 abbrev pub most_counts : ℕ
 most_counts = 65535
 
--- these two numbers are TEC and REC
+-- These two numbers are TEC and REC.
 pub record SayCounters (transmit receive : Data) (counters : Counters) : Type 0 where
   pub transmits : IsNumber counters.transmit transmit
   pub receives : IsNumber counters.receive receive
   pub few_transmits : counters.transmit ≤ most_counts
   pub few_receives : counters.receive ≤ most_counts
 
--- an array of this time and these counters
+-- A change of the counters is an array of its time, TEC and REC after it.
 abbrev pub SaysChange : Data → Timed Counters → Type 0
 SaysChange d change =
     (transmit receive : Data) × (d ≡ three (integer (pos change.time)) transmit receive)
     × SayCounters transmit receive change.told
 
--- an array of the word for this state and these counters
+-- The end is an array of the word for the state, TEC and REC.
 abbrev pub SaysEnd : Data → Ending → Type 0
 SaysEnd d end =
     (transmit receive : Data) × (d ≡ three (string (state_word end.state)) transmit receive)
     × SayCounters transmit receive end.counters
 
--- a field that may be left out says this, and nothing where it is left out
+-- A field that may be left out: it has this value, or there is neither a field nor a value.
 abbrev pub SaysIfThere : {A : Type 0} → (Data → A → Type 0) → Option Data → Option A → Type 0
 SaysIfThere Says None None = Unit {0}
 SaysIfThere Says None (Some x) = ⊥
@@ -55,27 +56,30 @@ SaysIfThere Says (Some d) (Some x) = Says d x
 
 -- ---- the lists by name
 
+-- the key of a list
 abbrev pub transcript_list_name : TranscriptList → List ℕ
 transcript_list_name list.Events = codes "events"
 transcript_list_name list.Counters = codes "counters"
 
+-- a list, as errors name it
 abbrev pub transcript_list_field : TranscriptList → TranscriptField
 transcript_list_field list.Events = of_transcript.Events
 transcript_list_field list.Counters = of_transcript.Counters
 
+-- the element of a list with this number, as errors name it
 abbrev pub transcript_element_field : TranscriptList → ℕ → TranscriptField
 transcript_element_field list.Events place = of_transcript.Event place
 transcript_element_field list.Counters place = of_transcript.Change place
 
--- how many elements a list has at most
+-- the maximum number of elements of a list
 abbrev pub most_transcript_elements : ℕ
 most_transcript_elements = 100000
 
--- all times are below this one, which may be behind the end of the case
+-- All times are below this one. They may be after the end of the case.
 abbrev pub time_end : ℕ
 time_end = 100001
 
--- a list of the transcript of this number; its times rise
+-- A list of the transcript with this number. Its times rise.
 abbrev pub transcript_list_demands : {A : Type 0} → TranscriptList → (Data → A → Type 0) → ℕ → Data → Demands KitField
 transcript_list_demands list Says number d =
     demand (field.Transcript number (transcript_list_field list))

@@ -1,4 +1,4 @@
--- The words for events, in documents and in the line protocol. (docs/CONFORMANCE.md)
+-- Events as text, in documents and in the line protocol. (docs/CONFORMANCE.md)
 use Rattle.std.specs.Prelude.{ℕ, ◌≡◌, List, ◌++◌, codes, Option, Some, None, IfSome}
 use Rattle.can_frame.specs.Parts.{Parts, IsFrame}
 use Rattle.can_frame.specs.Text.{frame_text}
@@ -15,7 +15,7 @@ kind_word Crc = codes "crc"
 kind_word Form = codes "form"
 kind_word Ack = codes "ack"
 
--- an event as text
+-- The text of an event.
 abbrev pub event_text : Event → List ℕ
 event_text (Sent f) = codes "sent " ++ frame_text f
 event_text (Received f) = codes "received " ++ frame_text f
@@ -25,13 +25,13 @@ event_text Overload = codes "overload"
 event_text WentOff = codes "off"
 event_text Recovered = codes "recovered"
 
--- the frame that an event tells of
+-- The frame of an event, if it has one.
 abbrev pub event_frame : Event → Option Parts
 event_frame (Sent f) = Some f
 event_frame (Received f) = Some f
 event_frame _ = None
 
--- a text says an event: it is the event's, and a frame of which the event tells is one
+-- The text is that of this event. The frame of the event, if it has one, is valid.
 pub record SaysEvent (text : List ℕ) (event : Event) : Type 0 where
   pub text_is : text ≡ event_text event
   pub frame : IfSome (event_frame event) IsFrame

@@ -1,4 +1,4 @@
--- To believe: what public calls and laws promise is said in these words
+-- To believe: the definitions in which public calls and laws state what they promise
 pub mod Events
 pub mod Names
 pub mod LevelTokens
@@ -8,6 +8,6 @@ pub mod Lists
 pub mod Cases
 pub mod Elements
 pub mod Transcripts
--- For private calls and ghost fields alone
+-- For private calls and ghost fields only
 pub mod NameSets
 pub mod Untold

@@ -1,4 +1,4 @@
--- The names of cases, kept in order.
+-- Sets of the names of cases.
 use denote.Ref.{Bor}
 use Rattle.std.specs.Prelude.{ℕ, ◌≡◌, List, Option, Some, None}
 use Rattle.std.specs.BTreeSet.{BTreeSet, contains_by}
@@ -9,12 +9,12 @@ use Rattle.std.specs.Ordering.{nat_cmp}
 use Rattle.toml.specs.Data.{Data, same_key}
 use Rattle.kit_documents.specs.Cases.{case_name}
 
--- the set has the names that these tables say, and no others
+-- The set has exactly the names in these tables.
 abbrev pub HasNames : BTreeSet (Bor (List ℕ)) → List Data → Type 0
 HasNames names cases = (text : List ℕ) →
     contains_by (λ name. slice_cmp nat_cmp text name.now) names ≡ list_any (λ other. same_key text (case_name other)) cases
 
--- nothing is said where there is no set
+-- The names, if there is a set; no condition if there is none.
 abbrev pub AreNames : Option (BTreeSet (Bor (List ℕ))) → List Data → Type 0
 AreNames None cases = Unit {0}
 AreNames (Some names) cases = HasNames names cases

@@ -6,12 +6,12 @@ use Rattle.std.specs.List.{list_all}
 abbrev pub is_kit_name_byte : ℕ → Bool
 is_kit_name_byte byte = (nat_le 97 byte && nat_le byte 122) || ((nat_le 48 byte && nat_le byte 57) || (byte == 45))
 
--- 1 to so many letters, digits and hyphens
+-- A name is 1 to `most` letters from a to z, digits and hyphens.
 pub record IsKitName (most : ℕ) (text : List ℕ) : Type 0 where
   pub some : 0 < length text
   pub few : length text ≤ most
   pub letters : list_all is_kit_name_byte text ≡ true
 
--- how many bytes the name of a case has at most
+-- the maximum length of the name of a case, in bytes
 abbrev pub longest_name : ℕ
 longest_name = 80

@@ -1,5 +1,5 @@
--- Transcripts: what a transcript's table has to meet, in the order in which it is tested, and which transcript it
--- says. (docs/CONFORMANCE.md, "Documents")
+-- The demands on a transcript's table, in the order of the tests, and the transcript that it describes.
+-- (docs/CONFORMANCE.md, "Documents")
 use Rattle.std.specs.Prelude.{ℕ, ◌≡◌, ◌≤◌, true, codes, List, [], ◌∷◌, length, take, Option, Some, None}
 use Rattle.std.specs.List.{position}
 use Rattle.toml.specs.Data.{Data, same_key}
@@ -19,24 +19,25 @@ use Rattle.kit_documents.specs.declared.transcripts.lists.TranscriptList.TheVari
 use Rattle.kit_documents.specs.declared.transcripts.told.Told.{Told}
 use Rattle.kit_documents.specs.Elements.{transcript_list_demands, SaysChange, SaysEnd, SaysEventAt, SaysIfThere}
 
--- something of the transcript of this number
+-- a part of the transcript with this number
 abbrev pub in_transcript : ℕ → TranscriptField → KitField
 in_transcript number part = field.Transcript number part
 
+-- the fields that a transcript may have
 abbrev pub transcript_fields : List (List ℕ)
 transcript_fields = codes "version" ∷ codes "case" ∷ codes "drove" ∷ codes "events" ∷ codes "counters" ∷ codes "end" ∷ []
 
--- ---- which case it is of
+-- ---- the case that it belongs to
 
--- the name of the case that a transcript's table says it is of
+-- the name of the case in a transcript's table
 abbrev pub case_of : Data → List ℕ
 case_of d = field_text (named (codes "case") d)
 
--- the place of the first of these tables that says this text
+-- The number of the first of these tables with this text.
 abbrev pub place_where : (Data → List ℕ) → List ℕ → List Data → Option ℕ
 place_where said text tables = position (λ table. same_key text (said table)) tables
 
--- the name of one of these cases, which none of these transcripts is of
+-- The name of one of these cases to which none of these transcripts belongs.
 pub record IsUntold (cases earlier : List Data) (name : List ℕ) : Type 0 where
   pub place : ℕ
   pub known : place_where case_name name cases ≡ Some place
@@ -44,15 +45,15 @@ pub record IsUntold (cases earlier : List Data) (name : List ℕ) : Type 0 where
 
 -- ---- levels
 
--- the strings of the levels that were driven
+-- the strings of the driven levels
 abbrev pub drove_of : Data → List Data
 drove_of d = elements_in (named (codes "drove") d)
 
--- how many levels a transcript has at most
+-- the maximum number of levels of a transcript
 abbrev pub most_levels : ℕ
 most_levels = 100000
 
--- at most 4096 strings, which together say no more levels than that
+-- At most 4096 strings, which together have at most `most_levels` levels.
 abbrev pub drove_demands : ℕ → Data → Demands KitField
 drove_demands number d =
     demand (in_transcript number of_transcript.Drove) (IsRequired (IsArrayOf 0 4096) (named (codes "drove") d))
@@ -63,7 +64,7 @@ drove_demands number d =
 
 -- ---- a transcript
 
--- what it has to tell first: its version, and one of these cases, which none of these transcripts is of
+-- It has no unknown field, version 1, and the name of one of these cases to which none of these transcripts belongs.
 abbrev pub transcript_naming_demands : List Data → List Data → ℕ → Data → Demands KitField
 transcript_naming_demands cases earlier number d =
     demand (in_transcript number of_transcript.Unknown) (are_known transcript_fields (members_in d) ≡ true)
@@ -71,14 +72,14 @@ transcript_naming_demands cases earlier number d =
     (demand (in_transcript number of_transcript.Case) (IsRequired (IsText (IsUntold cases earlier)) (named (codes "case") d))
     no_demands))
 
--- the end, which may be left out
+-- The end is valid, or left out.
 abbrev pub end_demands : ℕ → Data → Demands KitField
 end_demands number d =
     demand (in_transcript number of_transcript.End)
     (IsOptional (λ value. (end : Ending) × SaysEnd value end) (named (codes "end") d))
     no_demands
 
--- what it tells of the run of its case
+-- What it lists of the run of its case: levels, events, counters and end.
 abbrev pub telling_demands : ℕ → Data → Demands KitField
 telling_demands number d =
     followed (drove_demands number d)
@@ -86,20 +87,20 @@ telling_demands number d =
     (followed (transcript_list_demands Counters SaysChange number d)
     (end_demands number d)))
 
--- a transcript's table, among these cases and behind these transcripts
+-- A transcript's table, of one of these cases, after these transcripts.
 abbrev pub transcript_demands : List Data → List Data → ℕ → Data → Demands KitField
 transcript_demands cases earlier number d =
     demand (in_transcript number of_transcript.Table) (IsTable d)
     (followed (transcript_naming_demands cases earlier number d)
     (telling_demands number d))
 
--- the tables of all transcripts, each behind those before
+-- The tables of all transcripts, each after those before it.
 abbrev pub transcripts_demands : List Data → List Data → Demands KitField
 transcripts_demands cases ds = demands_on_each (λ number d. transcript_demands cases (take number ds) number d) 0 ds
 
--- ---- which transcript it says
+-- ---- the transcript
 
--- the table tells this of the run of a case
+-- The table lists this of the run of a case.
 pub record SaysTelling (d : Data) (t : Transcript) : Type 0 where
   pub drove : SayStrings (drove_of d) t.drove.items
   pub events : SaysIfThere (λ list events. ArePaired SaysEventAt (elements list) events.items)
@@ -108,19 +109,19 @@ pub record SaysTelling (d : Data) (t : Transcript) : Type 0 where
       (named (codes "counters") d) t.counters
   pub end : SaysIfThere SaysEnd (named (codes "end") d) t.end
 
--- the table says this transcript, of the case at this place among these
+-- The table describes this transcript. Its number of the case is that of the first case with the name.
 pub record SaysTranscript (cases : List Data) (d : Data) (t : Told) : Type 0 where
   pub case : IsRequired (IsText (λ name. place_where case_name name cases ≡ Some t.case)) (named (codes "case") d)
   pub telling : SaysTelling d t.transcript
 
--- both are there and are the same, or neither is there
+-- Both exist and are equal, or neither exists.
 abbrev pub AreBoth : {A : Type 0} → (A → A → Type 0) → Option A → Option A → Type 0
 AreBoth Same None None = Unit {0}
 AreBoth Same None (Some b) = ⊥
 AreBoth Same (Some a) None = ⊥
 AreBoth Same (Some a) (Some b) = Same a b
 
--- the transcripts are the same
+-- The two transcripts are equal.
 pub record AreSameTranscripts (a b : Told) : Type 0 where
   pub case : a.case ≡ b.case
   pub drove : a.transcript.drove.items ≡ b.transcript.drove.items

@@ -1,4 +1,4 @@
-//! Elements of a list that come at their times.
+//! Lists whose elements have times.
 ghost use Rattle.std.specs.Prelude.{ℕ, ◌≡◌, ◌⊎◌, ◌≤◌, ◌<◌, map, IfOk, IsErrOf, MatchOption, OnOk};
 ghost use Rattle.toml.specs.Data.{Data};
 ghost use Rattle.toml.specs.View.{view};
@@ -12,21 +12,22 @@ use document_values::{elements_of, whole_number};
 use std::alloc::{AllocError, AllocFailed, Global};
 use toml::Value;
 
-/// What the elements of a list say. `Lists` are the lists that it is an element of: cases and transcripts have their own.
+/// What an element of a list is read into. `Lists` are the lists with such elements: cases and transcripts have their
+/// own.
 pub trait Element<Lists>: Sized + Drop {
-    /// The element says this.
+    /// The element is read as this value.
     ghost says: { Data → Self → Type 0 };
 
-    /// What an element of this time says.
+    /// Returns what this element, which has this time, is read as; `None` if it is invalid.
     fn in_value(value: &Value, time: u32) -> Option<Self>
         requires { time_in (view value.now) ≡ time }
         ensures { MatchOption result ((x : Self) → ¬ says (view value.now) x) (says (view value.now)) };
 }
 
-/// Why elements are not read.
+/// Why a list is not read.
 #[derive(Clone, Copy, Debug, PartialEq, Eq)]
 pub enum ElementFault {
-    /// The first element that isn't as it has to be.
+    /// The first invalid element.
     At(usize),
     Memory,
 }
@@ -47,7 +48,8 @@ impl From<AllocError> for ElementFault {
     }
 }
 
-/// Reads the elements of a list, whose times are below the end and so far apart at least.
+/// Reads the elements of a list. Their times must be below `end`, and each at least `apart` later than the one before.
+/// Otherwise `At` has the number of the first invalid element.
 pub fn read_elements<Lists, T: Element<Lists>>(
     alloc: Global,
     values: &[Value],
@@ -87,7 +89,7 @@ fn time_within(value: &Value, least: u64, end: u32) -> Option<u32>
     Some(time as u32)
 }
 
-/// The time of an element: the number itself, or the first of an array.
+/// The time of an element: the number itself, or the first of an array. It is 0 if there is none.
 fn time_of(value: &Value) -> u64
     ensures { result ≡ time_in (view value.now) }
 {

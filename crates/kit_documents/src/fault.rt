@@ -1,28 +1,28 @@
-//! Why a document is not read.
+//! Why a document is refused.
 ghost use Rattle.std.specs.Prelude.{◌≡◌};
 ghost use Rattle.kit_documents.specs.declared.fault.KitFault.TheVariants.{Memory};
 
 use crate::field::{CaseField, KitField, TranscriptField};
 use std::alloc::{AllocError, AllocFailed};
 
-/// Why a document is not read: its first field that isn't as it has to be, or memory ran out.
+/// Why a document is refused: its first invalid field, or a failed allocation.
 #[derive(Clone, Copy, Debug, PartialEq, Eq)]
 pub enum KitFault {
-    /// This field isn't as it has to be.
+    /// This field is invalid.
     Field(KitField),
-    /// Memory ran out.
+    /// An allocation failed.
     Memory,
 }
 
 impl KitFault {
-    /// The refusal of something of the case of this number.
+    /// The fault of this part of the case with this number.
     pub(crate) fn in_case(number: usize, part: CaseField) -> KitFault
         ensures { result ≡ KitFault.Field (KitField.Case number part) }
     {
         KitFault::Field(KitField::Case { number, part })
     }
 
-    /// The refusal of something of the transcript of this number.
+    /// The fault of this part of the transcript with this number.
     pub(crate) fn in_transcript(number: usize, part: TranscriptField) -> KitFault
         ensures { result ≡ KitFault.Field (KitField.Transcript number part) }
     {

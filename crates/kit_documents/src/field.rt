@@ -1,14 +1,14 @@
-//! The fields of a document of the conformance kit, as a refusal names them.
+//! The fields of a kit document, as errors name them.
 use thiserror::Error;
 
-/// What is wrong in a kit document: the document, or something of its cases and transcripts. Cases,
-/// transcripts and elements are counted from 0.
+/// An invalid field of a kit document: of the document itself, a case or a transcript. Cases, transcripts and elements
+/// are counted from 0.
 #[derive(Clone, Copy, Debug, PartialEq, Eq, Error)]
 pub enum KitField {
-    /// The bytes are no UTF-8, or no TOML document.
+    /// The bytes are not UTF-8, or not a TOML document.
     #[error("toml")]
     Document,
-    /// A field at the top that isn't known.
+    /// An unknown field at the top level.
     #[error("key")]
     Unknown,
     /// The list of cases.
@@ -17,13 +17,13 @@ pub enum KitField {
     /// The list of transcripts.
     #[error("transcript")]
     Transcripts,
-    /// Something of one case.
+    /// A part of a case.
     #[error("case[{number}]{part}")]
     Case {
         number: usize,
         part: CaseField,
     },
-    /// Something of one transcript.
+    /// A part of a transcript.
     #[error("transcript[{number}]{part}")]
     Transcript {
         number: usize,
@@ -31,13 +31,13 @@ pub enum KitField {
     },
 }
 
-/// What is wrong in a case's table.
+/// The invalid part of a case's table.
 #[derive(Clone, Copy, Debug, PartialEq, Eq, Error)]
 pub enum CaseField {
-    /// It isn't a table.
+    /// It is not a table.
     #[error("")]
     Table,
-    /// A field that isn't known.
+    /// An unknown field.
     #[error(".key")]
     Unknown,
     /// The version of the format.
@@ -47,22 +47,22 @@ pub enum CaseField {
     Family,
     #[error(".name")]
     Name,
-    /// What the case is for.
+    /// The purpose of the case.
     #[error(".purpose")]
     Purpose,
-    /// What the bus was before.
+    /// The start: what the bus was before bit time 0.
     #[error(".start")]
     Start,
-    /// What a bench has to be able to do, or one of these is missing.
+    /// What a test bench must be able to do: the list is invalid, or lacks an entry that the case needs.
     #[error(".needs")]
     Needs,
-    /// The choices of a controller that the expectation rests on.
+    /// The choices of a controller that the expected result depends on.
     #[error(".choices")]
     Choices,
-    /// How many bit times the case has.
+    /// The number of bit times.
     #[error(".bits")]
     Bits,
-    /// The list of the tester's levels, or how many they are together.
+    /// The list of the tester's levels, or their total number.
     #[error(".tester")]
     Tester,
     /// An element of that list.
@@ -74,7 +74,7 @@ pub enum CaseField {
     /// An element of that list.
     #[error(".offers[{0}]")]
     Offer(usize),
-    /// The list of wishes for overload frames.
+    /// The list of overload requests.
     #[error(".holds")]
     Holds,
     /// An element of that list.
@@ -88,22 +88,22 @@ pub enum CaseField {
     ForcedTime(usize),
 }
 
-/// What is wrong in a transcript's table.
+/// The invalid part of a transcript's table.
 #[derive(Clone, Copy, Debug, PartialEq, Eq, Error)]
 pub enum TranscriptField {
-    /// It isn't a table.
+    /// It is not a table.
     #[error("")]
     Table,
-    /// A field that isn't known.
+    /// An unknown field.
     #[error(".key")]
     Unknown,
     /// The version of the format.
     #[error(".version")]
     Version,
-    /// Which case it is of.
+    /// The case that it belongs to.
     #[error(".case")]
     Case,
-    /// The list of the levels that were driven, or how many they are together.
+    /// The list of driven levels, or their total number.
     #[error(".drove")]
     Drove,
     /// An element of that list.
@@ -115,13 +115,13 @@ pub enum TranscriptField {
     /// An element of that list.
     #[error(".events[{0}]")]
     Event(usize),
-    /// The list of changes of the counters.
+    /// The list of counter changes.
     #[error(".counters")]
     Counters,
     /// An element of that list.
     #[error(".counters[{0}]")]
     Change(usize),
-    /// The state and the counters in the end.
+    /// The state and the counters at the end.
     #[error(".end")]
     End,
 }

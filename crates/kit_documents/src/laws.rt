@@ -1,4 +1,4 @@
-//! Laws of cases and of transcripts. Each is a function with no parameters and an empty body, whose contract is the law.
+//! Laws of cases and of transcripts. Each is a function with no parameters and an empty body; its contract is the law.
 ghost use Rattle.std.specs.Prelude.{◌≡◌, List};
 ghost use Rattle.toml.specs.Data.{Data};
 ghost use Rattle.kit_documents.specs.declared.field.KitField.{KitField as Wrong};
@@ -8,8 +8,8 @@ ghost use Rattle.kit_documents.specs.declared.transcripts.told.Told.{Told as Tol
 ghost use Rattle.kit_documents.specs.Cases.{cases_demands, AreSameCases, SaysCase};
 ghost use Rattle.kit_documents.specs.Transcripts.{transcripts_demands, AreSameTranscripts, SaysTranscript};
 
-/// A table says at most one case; where all that cases have to meet is met no field is told, and else at most one
-/// is.
+/// A table describes at most one case. If all demands on the cases are met, no field is invalid; otherwise at most one
+/// field is the first invalid one.
 pub fn one_case()
     ensures case { (d : Data) (a b : CaseSaid) → SaysCase d a → SaysCase d b → AreSameCases a b }
     ensures no_field { (ds : List Data) (wrong : Wrong) → AllMet (cases_demands ds) → IsFirstUnmet wrong (cases_demands ds) → ⊥ }
@@ -18,8 +18,8 @@ pub fn one_case()
         → wrong ≡ other }
 {}
 
-/// A table says at most one transcript; where all that transcripts have to meet is met no field is told, and else at
-/// most one is.
+/// A table describes at most one transcript. If all demands on the transcripts are met, no field is invalid; otherwise
+/// at most one field is the first invalid one.
 pub fn one_told()
     ensures transcript { (cases : List Data) (d : Data) (a b : ToldSaid)
         → SaysTranscript cases d a → SaysTranscript cases d b

@@ -1,37 +1,38 @@
-//! Documents of the conformance kit, read: cases, what each has to be, and transcripts; and the words of documents and of
-//! the line protocol. (docs/CONFORMANCE.md, "Documents")
+//! Reads cases and transcripts of the conformance kit, and reads and writes the words of its documents and line
+//! protocol. (docs/CONFORMANCE.md, "Documents")
 //!
-//! [`read_cases`] reads all tables of `case`, each behind those before, [`read_transcripts`] all of `transcript`. A
-//! transcript is of one of the document's cases, which are handed over as values. Whatever isn't as it has to be is
-//! refused by the first field that isn't: `transcript[3].events[1]`.
+//! [`read_cases`] reads the tables of the array `case`, and [`read_transcripts`] those of `transcript`. A case may not
+//! have the name of an earlier one. A transcript belongs to a case of its document; the tables of these cases are
+//! passed as values. An invalid document is refused, and the error names its first invalid field in the order of the
+//! tests: `transcript[3].events[1]`.
 //!
 //! | File | What it has | Defined in |
 //! |---|---|---|
 //! | `words/events.rt` | [`read_event`], [`read_state`] | `specs/Events.antt`, can_fault's `specs/Words.antt` |
 //! | `words/event_texts.rt` | [`push_event`], [`push_state`] | `specs/Events.antt`, can_fault's `specs/Words.antt` |
-//! | `words/levels.rt` | [`push_levels`], levels as tokens | `specs/LevelTokens.antt` |
-//! | `words/reading.rt` | [`read_levels`], the levels that tokens say | `specs/LevelTexts.antt` |
+//! | `words/levels.rt` | [`push_levels`]: levels, written as tokens | `specs/LevelTokens.antt` |
+//! | `words/reading.rt` | [`read_levels`]: levels, read from tokens | `specs/LevelTexts.antt` |
 //! | `words/names.rt` | [`is_name`], [`LONGEST_NAME`] | `specs/Names.antt` |
-//! | `tables.rt` | [`text_of`], [`is_of_version_one`]: what the tables of cases and of transcripts have alike | `specs/CaseWords.antt`, `specs/Lists.antt` |
-//! | `strings.rt` | [`read_strings`], levels in strings | `specs/Lists.antt` |
-//! | `elements.rt` | [`read_elements`] over the trait [`Element`]: what comes at its time | `specs/Lists.antt` |
+//! | `tables.rt` | [`text_of`], [`is_of_version_one`]: what tables of cases and of transcripts have in common | `specs/CaseWords.antt`, `specs/Lists.antt` |
+//! | `strings.rt` | [`read_strings`]: levels in strings | `specs/Lists.antt` |
+//! | `elements.rt` | [`read_elements`] over the trait [`Element`]: lists whose elements have times | `specs/Lists.antt` |
 //! | `cases/words.rt` | [`Needs`], [`Choice`], and the words of a case's table | `specs/CaseWords.antt` |
 //! | `cases/earlier.rt` | the cases before one, and their names in order | `specs/NameSets.antt` |
 //! | `cases/naming.rt` | the name of a case | `specs/Cases.antt` |
-//! | `cases/head.rt` | how a case starts, what it needs, and how long it is | `specs/Cases.antt` |
+//! | `cases/head.rt` | start, needs, choices and length of a case | `specs/Cases.antt` |
 //! | `cases/tester.rt` | what the tester does: its levels, and forced bit times | `specs/Cases.antt` |
 //! | `cases/lists.rt` | the lists of a case | `specs/Lists.antt` |
-//! | `cases/timed.rt` | what comes at its time: offers, wishes and forced bit times | `specs/Cases.antt` |
-//! | `cases/case.rt` | [`Case`], [`read_case`], and [`read_cases`], all cases of a list | `specs/Cases.antt` |
-//! | `transcripts/naming.rt` | which case a transcript is of | `specs/Transcripts.antt` |
-//! | `transcripts/known.rt` | the cases that no transcript is of yet | `specs/Untold.antt` |
+//! | `cases/timed.rt` | offers, overload requests and forced bit times | `specs/Cases.antt` |
+//! | `cases/case.rt` | [`Case`], [`read_case`], and [`read_cases`] for all cases of a list | `specs/Cases.antt` |
+//! | `transcripts/naming.rt` | the case of a transcript | `specs/Transcripts.antt` |
+//! | `transcripts/known.rt` | the cases that have no transcript yet | `specs/Untold.antt` |
 //! | `transcripts/drove.rt` | the levels that were driven | `specs/Transcripts.antt` |
-//! | `transcripts/lists.rt` | the lists of a transcript, whose times rise | `specs/Elements.antt` |
+//! | `transcripts/lists.rt` | the lists of a transcript, with rising times | `specs/Elements.antt` |
 //! | `transcripts/elements.rt` | events, counters and the end | `specs/Elements.antt` |
 //! | `transcripts/told.rt` | [`Told`], [`read_transcript`], [`read_transcripts`] | `specs/Transcripts.antt` |
-//! | `laws.rt` | [`one_case`], [`one_told`]: a table says at most one case, or one transcript | `specs/Cases.antt`, `specs/Transcripts.antt` |
-//! | `fault.rt` | [`KitFault`], why a document is not read | |
-//! | `field.rt` | [`KitField`], what is wrong in one | |
+//! | `laws.rt` | [`one_case`], [`one_told`]: a table describes at most one case, or one transcript | `specs/Cases.antt`, `specs/Transcripts.antt` |
+//! | `fault.rt` | [`KitFault`]: why a document is refused | |
+//! | `field.rt` | [`KitField`]: the invalid field | |
 #![tactic(auto)]
 
 mod cases;

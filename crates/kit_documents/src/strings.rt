@@ -1,4 +1,4 @@
-//! Strings of levels, one after another.
+//! Levels in strings.
 ghost use Rattle.std.specs.Prelude.{ℕ, ◌≡◌, ◌≤◌, List, false, map, length, true, IfOk, IsErrOf, OnOk};
 ghost use Rattle.toml.specs.View.{view};
 ghost use Rattle.can_frame.specs.declared.level.Level.{Level as LevelSaid};
@@ -14,11 +14,11 @@ use can_frame::Level;
 use std::alloc::{AllocError, Global};
 use toml::Value;
 
-/// How many strings the levels may stand in.
+/// A list of levels has at most this number of strings.
 pub(crate) const MOST_STRINGS: usize = 4096;
 
-/// Reads strings of levels, one after another, and keeps the first of them, at most so many. The others are read
-/// too, so a string that says none is told wherever it stands.
+/// Reads strings of levels, one after another, and keeps at most the first `most` levels. The others are read too, so
+/// that an invalid string is reported wherever it is: `At` has the number of the first one.
 pub fn read_strings(
     alloc: Global,
     most: usize,
@@ -38,7 +38,7 @@ pub fn read_strings(
     Ok(levels)
 }
 
-/// Appends the levels that a string says, as far as there is room, and answers whether it says some.
+/// Appends the levels of a string until there are `most`. Returns whether it is a text of levels.
 fn read_string(levels: &mut Vec<Level>, most: usize, value: &Value) -> Result<bool, AllocError>
     requires { length levels.old.items ≤ most }
     ensures said { IfOk result (λ said. said ≡ true → AddsLevels (SaysString (view value.now)) most levels.old.items levels.new.items) }

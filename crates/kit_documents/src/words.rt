@@ -1,4 +1,4 @@
-//! The words of documents and of the line protocol: levels, events, states and names, as text and read.
+//! Words of documents and of the line protocol: levels, events, states and names, written and read.
 
 pub(crate) mod event_texts;
 pub(crate) mod events;

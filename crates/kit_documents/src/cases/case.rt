@@ -1,4 +1,4 @@
-//! Cases, and the list of them that a document has.
+//! Cases, and the list of cases of a document.
 ghost use Rattle.std.specs.Prelude.{◌≡◌, ◌≢◌, ◌≤◌, [], All, codes, length, map, IfOk, IsErrOf, MatchBool, OnOk};
 ghost use Rattle.toml.specs.Data.{table};
 ghost use Rattle.toml.specs.View.{table_view, view};
@@ -27,21 +27,21 @@ const CASE_FIELDS: [&str; 12] = [
     "offers", "holds", "forced",
 ];
 
-/// A case of a document. It holds no expectation: what is due follows from its script.
+/// A case of a document. It has no expected result, which follows from its script.
 #[derive(Debug, Drop)]
 pub struct Case {
     /// 1 to 80 letters from a to z, digits and hyphens.
     pub name: String,
-    /// What a bench has to be able to do.
+    /// What a test bench must be able to do.
     pub needs: Needs,
-    /// What the expectation rests on.
+    /// The choices that the expected result depends on.
     pub choices: Vec<Choice>,
     pub script: Script,
 }
 
-/// Reads the cases of a document's list `case`, each behind those before it.
+/// Reads the cases in the array `case` of a document, in order.
 ///
-/// `Field` names the first field that isn't as it has to be; `Memory` says that memory ran out.
+/// The error is `Field` with the first invalid field, or `Memory` if an allocation failed.
 pub fn read_cases(alloc: Global, values: &[Value]) -> Result<Vec<Case>, KitFault>
     ensures said { IfOk result (λ cases. ArePaired SaysCase (map view values.now) cases.items) }
     ensures short { IfOk result (λ cases. All (λ one. length one.script.tester.items ≤ longest_case) cases.items) }
@@ -57,17 +57,25 @@ pub fn read_cases(alloc: Global, values: &[Value]) -> Result<Vec<Case>, KitFault
     Ok(cases)
 }
 
-/// Reads the case of this number, whose table this is, behind these cases: `earlier` are their tables, whose
-/// names it may not have.
+/// Reads the case with this number from its table. `earlier` are the tables of the cases before it, whose names it may
+/// not have.
 ///
-/// The fields are `version`, 1; `family` and `name`, of letters from a to z, digits and hyphens; `purpose`, one
-/// line; `start`, `idle` or `joining`; `needs` and `choices`, arrays of words; `bits`, 1 to 100000; `tester`, an
-/// array of strings of levels; `offers`, arrays of a time and a frame text; `holds`, arrays of a time and a
-/// number from 0 to 2; and `forced`, an array of times. Times are in bit times, counted from 0 and below `bits`.
-/// `purpose`, `needs`, `choices`, `offers`, `holds` and `forced` may be left out.
+/// - `version`: 1
+/// - `family` and `name`: letters from a to z, digits and hyphens
+/// - `purpose`: one line
+/// - `start`: `idle` or `joining`
+/// - `needs` and `choices`: arrays of words
+/// - `bits`: the number of bit times, 1 to 100000
+/// - `tester`: an array of strings of levels
+/// - `offers`: arrays of a time and a frame text
+/// - `holds`: arrays of a time and a number from 0 to 2
+/// - `forced`: an array of times
 ///
-/// `Field` names the first field that isn't as it has to be; `Memory` says that memory ran out. The case holds
-/// all memory that it needs.
+/// Times are bit times, counted from 0 and below `bits`. `purpose`, `needs`, `choices`, `offers`, `holds` and `forced`
+/// may be left out.
+///
+/// The error is `Field` with the first invalid field, or `Memory` if an allocation failed. The returned case owns all
+/// memory that it needs.
 pub fn read_case(
     alloc: Global,
     earlier: &[Value],
@@ -82,7 +90,7 @@ pub fn read_case(
     read_behind(alloc, &Earlier::of(earlier), number, value)
 }
 
-/// Reads the case of this number, whose table this is, behind these cases.
+/// Reads the case with this number from its table, after these cases.
 fn read_behind(
     alloc: Global,
     earlier: &Earlier<'_>,
@@ -100,7 +108,7 @@ fn read_behind(
     read_fields(alloc, earlier, number, fields)
 }
 
-/// Reads the case of this number, with these fields, behind these cases.
+/// Reads the case with this number from its fields, after these cases.
 fn read_fields(
     alloc: Global,
     earlier: &Earlier<'_>,
@@ -135,7 +143,7 @@ fn read_fields(
     })
 }
 
-/// Whether what a case with these fields asks of a bench is among its needs.
+/// Whether the needs include all that the lists of the case require of a test bench.
 fn has_all(needs: Needs, fields: &Table) -> bool
     requires { SaysNeeds (named (codes "needs") (table (table_view fields.now))) needs }
     ensures { MatchBool result (NeedsAll (table (table_view fields.now)) needs) (¬ NeedsAll (table (table_view fields.now)) needs) }
@@ -144,7 +152,7 @@ fn has_all(needs: Needs, fields: &Table) -> bool
         && (needs.hold || is_left_empty(fields, "holds"))
 }
 
-/// Whether a list of a case with these fields is empty or left out.
+/// Whether a list of the case is empty or left out.
 fn is_left_empty(fields: &Table, name: &str) -> bool
     ensures { MatchBool result (elements_in (named name.now (table (table_view fields.now))) ≡ []) (elements_in (named name.now (table (table_view fields.now))) ≢ []) }
 {

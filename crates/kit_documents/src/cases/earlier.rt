@@ -1,4 +1,4 @@
-//! The cases before one: it may not have the name of any of them.
+//! The cases before one. It may not have the name of any of them.
 ghost use Rattle.std.specs.List.{list_any};
 ghost use Rattle.std.specs.Prelude.{◌≡◌, List, [], ◌∷◌, ◌++◌, map, OnErr, OnOk};
 ghost use Rattle.toml.specs.Data.{Data, same_key};
@@ -11,10 +11,11 @@ use std::alloc::{AllocFailed, Global};
 use std::collections::BTreeSet;
 use toml::Value;
 
-/// So many cases are sooner looked through for a name than kept in the order of their names. Chosen for speed alone.
+/// Up to this number of cases, searching all of them for a name is faster than keeping a set of names. It affects only
+/// speed.
 const FEW_CASES: usize = 32;
 
-/// The cases before one: their tables, and their names in order, where these are kept.
+/// The cases before one: their tables and, if it is kept, the set of their names.
 #[derive(Drop)]
 pub(crate) struct Earlier<'a> {
     tables: &'a [Value],
@@ -23,7 +24,7 @@ pub(crate) struct Earlier<'a> {
 }
 
 impl<'a> Earlier<'a> {
-    /// No cases yet; the names of those that are added are kept, if there are to be many.
+    /// No cases yet. A set of names is kept if there will be many, `count` in all.
     pub(crate) fn none(alloc: Global, count: usize) -> Earlier<'a>
         ensures { result.tables.now ≡ [] }
     {
@@ -36,7 +37,7 @@ impl<'a> Earlier<'a> {
         }
     }
 
-    /// These cases, which are looked through for a name.
+    /// These cases, all of which are searched for a name.
     pub(crate) fn of(tables: &'a [Value]) -> Earlier<'a>
         ensures { result.tables.now ≡ tables.now }
     {
@@ -56,7 +57,7 @@ impl<'a> Earlier<'a> {
         }
     }
 
-    /// One more case: these are the tables with it.
+    /// Adds the case with this table. `tables` are all tables, with the added one.
     pub(crate) fn add(
         &mut self,
         tables: &'a [Value],
@@ -71,7 +72,7 @@ impl<'a> Earlier<'a> {
     }
 }
 
-/// Adds a name to those that are kept, if they are.
+/// Adds a name to the set, if one is kept.
 fn keep<'a>(
     names: &mut Option<BTreeSet<&'a str>>,
     name: &'a str,

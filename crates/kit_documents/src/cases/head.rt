@@ -1,4 +1,4 @@
-//! The head of a case: how it starts, what it needs, on which choices it rests, and how long it is.
+//! The head of a case: its start, needs, choices and length.
 ghost use Rattle.std.specs.Prelude.{◌≤◌, codes, IfNone, IfOk, IfSome, IsErrOf, OnOk, OnSome};
 ghost use Rattle.toml.specs.Data.{table};
 ghost use Rattle.toml.specs.View.{table_view};
@@ -17,10 +17,10 @@ use document_values::{field, required_number};
 use std::alloc::Global;
 use toml::Table;
 
-/// How many bit times a case may have.
+/// A case has at most this number of bit times.
 const MOST_BITS: u64 = 100_000;
 
-/// How a case starts, what it needs, on which choices it rests, and how long it is.
+/// Start, needs, choices and number of bit times of a case.
 #[derive(Drop)]
 pub(crate) struct Head {
     pub(crate) start: Start,
@@ -29,7 +29,7 @@ pub(crate) struct Head {
     pub(crate) bits: u32,
 }
 
-/// Reads the head of the case of this number.
+/// Reads the head of the case with this number.
 pub(crate) fn read_head(alloc: Global, number: usize, fields: &Table) -> Result<Head, KitFault>
     ensures start { IfOk result (λ head. IsRequired (λ value. SaysStart value head.start) (named (codes "start") (table (table_view fields.now)))) }
     ensures needs { IfOk result (λ head. SaysNeeds (named (codes "needs") (table (table_view fields.now))) head.needs) }
@@ -59,7 +59,7 @@ pub(crate) fn read_head(alloc: Global, number: usize, fields: &Table) -> Result<
     })
 }
 
-/// The start that the fields of a case say.
+/// The start in the fields of a case.
 fn start_said(fields: &Table) -> Option<Start>
     ensures said { IfSome result (λ start. IsRequired (λ value. SaysStart value start) (named (codes "start") (table (table_view fields.now)))) }
     ensures unmet { IfNone result (¬ IsRequired (λ value. (start : StartSaid) × SaysStart value start) (named (codes "start") (table (table_view fields.now)))) }
@@ -67,7 +67,7 @@ fn start_said(fields: &Table) -> Option<Start>
     start_in(field(fields, "start")?)
 }
 
-/// How many bit times the fields of a case say.
+/// The number of bit times in the fields of a case.
 fn length_said(fields: &Table) -> Option<u32>
     ensures said { IfSome result (λ bits. IsRequired (IsNumber bits) (named (codes "bits") (table (table_view fields.now)))) }
     ensures short { IfSome result (λ bits. bits ≤ longest_case) }

@@ -1,4 +1,4 @@
-//! The lists of a case whose elements come at their times.
+//! The lists of a case whose elements have times.
 ghost use Rattle.std.specs.Prelude.{◌≡◌, IfOk, IsErrOf, OnOk};
 ghost use Rattle.toml.specs.Data.{table};
 ghost use Rattle.toml.specs.View.{table_view};
@@ -16,17 +16,17 @@ use document_values::{elements_or_none, frame, number, two_of, whole_number};
 use std::alloc::Global;
 use toml::{Table, Value};
 
-/// How many overload frames a controller may be asked for.
+/// A controller is asked for at most this number of overload frames.
 const MOST_WISHED: u64 = 2;
 
 /// The lists of a case.
 #[derive(Clone, Copy, Debug, PartialEq, Eq)]
 pub(crate) enum CaseList {
-    /// Frames that are offered.
+    /// Frames to transmit.
     Offers,
-    /// Wishes for overload frames.
+    /// Requests for overload frames.
     Holds,
-    /// Bit times in which the controller sees a recessive level.
+    /// Bit times in which the controller sees a recessive level, whatever it drives.
     Forced,
 }
 
@@ -41,7 +41,7 @@ impl CaseList {
         }
     }
 
-    /// How many elements it has at most.
+    /// The list has at most this number of elements.
     fn most(self) -> usize
         ensures { result ≡ most_case_elements self }
     {
@@ -51,7 +51,7 @@ impl CaseList {
         }
     }
 
-    /// How far apart the times of its elements are at least.
+    /// The times of successive elements differ by at least this.
     fn apart(self) -> u8
         ensures { result ≡ apart_of self }
     {
@@ -61,7 +61,7 @@ impl CaseList {
         }
     }
 
-    /// The list, as a refusal names it.
+    /// The list, as errors name it.
     fn field(self) -> CaseField
         ensures { result ≡ case_list_field self }
     {
@@ -72,7 +72,7 @@ impl CaseList {
         }
     }
 
-    /// Its element at a place, as a refusal names it.
+    /// The element with this number, as errors name it.
     pub(crate) fn element(self, place: usize) -> CaseField
         ensures { result ≡ case_element_field self place }
     {
@@ -115,7 +115,7 @@ impl Element<CaseList> for u32 {
     }
 }
 
-/// Reads a list of the case of this number, which has so many bit times and these fields.
+/// Reads a list of the case with this number, which has `bits` bit times.
 pub(crate) fn read_list<T: Element<CaseList>>(
     alloc: Global,
     list: CaseList,

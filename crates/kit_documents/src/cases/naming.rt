@@ -20,10 +20,10 @@ use crate::words::names::{LONGEST_NAME, is_name};
 use document_values::field;
 use toml::Table;
 
-/// How many bytes the name of a family may have.
+/// The name of a family has at most this number of bytes.
 const LONGEST_FAMILY: usize = 40;
 
-/// Reads the name of the case of this number, with these fields, behind these cases.
+/// Reads the name of the case with this number from its fields, after these cases.
 pub(crate) fn read_name<'a>(
     earlier: &Earlier<'_>,
     number: usize,
@@ -48,7 +48,7 @@ pub(crate) fn read_name<'a>(
     Ok(name)
 }
 
-/// The family that the fields of a case say.
+/// The family in the fields of a case.
 fn family_in(fields: &Table) -> Option<&str>
     ensures said { IfSome result (λ family. named (codes "family") (table (table_view fields.now)) ≡ Some (string family.now)) }
     ensures met { OnSome result (IsRequired (IsText (IsKitName 40)) (named (codes "family") (table (table_view fields.now)))) }
@@ -61,7 +61,7 @@ fn family_in(fields: &Table) -> Option<&str>
     Some(family)
 }
 
-/// The name that the fields of a case say, of a case of this family behind these cases.
+/// The name in the fields of a case of this family, if none of these cases has it.
 fn name_in<'a>(fields: &'a Table, family: &str, earlier: &Earlier<'_>) -> Option<&'a str>
     ensures said { IfSome result (λ name. named (codes "name") (table (table_view fields.now)) ≡ Some (string name.now)) }
     ensures met { OnSome result (IsRequired (IsText (IsNewCaseName (map view earlier.now.tables.now) family.now)) (named (codes "name") (table (table_view fields.now)))) }
@@ -74,7 +74,7 @@ fn name_in<'a>(fields: &'a Table, family: &str, earlier: &Earlier<'_>) -> Option
     Some(name)
 }
 
-/// Whether the name of a case is one of the family, and none of these cases has it.
+/// Whether this is a name of a case of the family that none of these cases has.
 fn is_new_name(earlier: &Earlier<'_>, family: &str, name: &str) -> bool
     ensures { IsTrue result ↔ IsNewCaseName (map view earlier.now.tables.now) family.now name.now }
 {
@@ -103,7 +103,7 @@ fn begins_with_hyphen(text: &[u8]) -> bool
     }
 }
 
-/// Whether a case's purpose is one line of at most 200 bytes, or left out.
+/// Whether the purpose of a case is one line of at most 200 bytes, or left out.
 fn has_purpose(fields: &Table) -> bool
     ensures { MatchBool result (IsOptional (IsText IsPurpose) (named (codes "purpose") (table (table_view fields.now)))) (¬ IsOptional (IsText IsPurpose) (named (codes "purpose") (table (table_view fields.now)))) }
 {

@@ -1,4 +1,4 @@
-//! What the tester does in a case: its levels, and the bit times that are forced.
+//! What the tester does in a case: its levels, and the forced bit times.
 ghost use Rattle.std.specs.Prelude.{◌≡◌, ◌<◌, All, codes, map, length, IfNone, IfOk, IfSome, IsErrOf, OnOk, OnSome};
 ghost use Rattle.toml.specs.Data.{table};
 ghost use Rattle.toml.specs.View.{table_view, view};
@@ -19,8 +19,7 @@ use document_values::field;
 use std::alloc::{AllocError, Global};
 use toml::{Table, Value};
 
-/// Reads the levels that the tester drives in the case of this number, which has so many bit times and these
-/// fields.
+/// Reads the levels that the tester drives in the case with this number, which has `bits` bit times.
 pub(crate) fn read_tester(
     alloc: Global,
     number: usize,
@@ -36,7 +35,7 @@ pub(crate) fn read_tester(
     let Some(values) = strings_in(fields) else {
         return Err(KitFault::in_case(number, CaseField::Tester));
     };
-    // One level more than there are bit times shows that there are too many.
+    // One level more than bit times is enough to show that there are too many.
     let levels = match read_strings(alloc, bits as usize + 1, values) {
         Ok(levels) => levels,
         Err(ElementFault::At(place)) => {
@@ -50,7 +49,7 @@ pub(crate) fn read_tester(
     Ok(levels)
 }
 
-/// The strings of the tester's levels: 1 to 4096 of them.
+/// The strings of the tester's levels: 1 to 4096.
 fn strings_in(fields: &Table) -> Option<&[Value]>
     ensures said { IfSome result (λ values. map view values.now ≡ strings_of (table (table_view fields.now))) }
     ensures met { OnSome result (IsRequired (IsArrayOf 1 4096) (named (codes "tester") (table (table_view fields.now)))) }
@@ -59,7 +58,7 @@ fn strings_in(fields: &Table) -> Option<&[Value]>
     array_of(field(fields, "tester")?, 1, MOST_STRINGS)
 }
 
-/// What the tester does that drives these levels, in bit times that are forced at some of them.
+/// What a tester with these levels does, if the bit times at these times are forced.
 pub(crate) fn forced_tester(
     alloc: Global,
     levels: &[Level],
@@ -76,7 +75,7 @@ pub(crate) fn forced_tester(
     Ok(does)
 }
 
-/// At these times the tester is forced.
+/// Forces the bit times at these times.
 fn force(does: &mut [TesterLevel], times: &[u32])
     requires { All (λ time. time < length does.old) times.now }
     ensures { does.new ≡ forced_at times.now does.old }

@@ -1,4 +1,4 @@
-//! What comes at its time in a case: offers, wishes and forced bit times.
+//! The lists of a case: offers, overload requests and forced bit times.
 ghost use Rattle.std.specs.Prelude.{◌≡◌, ◌≢◌, ◌<◌, All, List, Some, codes, length, map, slice_index, take, IfOk, IsErrOf, MatchOption, OnOk};
 ghost use Rattle.std.specs.List.{slice_get};
 ghost use Rattle.toml.specs.Data.{table, Data};
@@ -19,7 +19,7 @@ use can_frame::{Frame, Level};
 use std::alloc::Global;
 use toml::Table;
 
-/// What the controller is handed at its time, and what the tester does in each bit time.
+/// The frames and requests that the controller gets, and what the tester does in each bit time.
 #[derive(Drop)]
 pub(crate) struct Lists {
     pub(crate) tester: Vec<TesterLevel>,
@@ -27,7 +27,7 @@ pub(crate) struct Lists {
     pub(crate) holds: Vec<Timed<u8>>,
 }
 
-/// Reads the lists of the case of this number, with these fields, whose tester drives these levels.
+/// Reads the lists of the case with this number, whose tester drives these levels.
 pub(crate) fn read_lists(
     alloc: Global,
     number: usize,
@@ -55,7 +55,7 @@ pub(crate) fn read_lists(
     })
 }
 
-/// What the tester does that drives these levels, forced at these times, if it is recessive at each.
+/// What a tester with these levels does, forced at the times of the case, if it is recessive at each of them.
 fn read_forced(
     alloc: Global,
     number: usize,
@@ -73,7 +73,7 @@ fn read_forced(
     Ok(forced_tester(alloc, levels, times)?)
 }
 
-/// The place of the first time at which the tester isn't recessive.
+/// The number of the first of these times at which the tester is dominant.
 fn first_dominant(levels: &[Level], times: &[u32]) -> Option<usize>
     requires { All (λ time. time < length levels.now) times.now }
     ensures { MatchOption result

@@ -16,21 +16,20 @@ use document_values::elements_or_none;
 use std::alloc::{AllocError, Global};
 use toml::{Table, Value};
 
-/// What a bench has to be able to do.
+/// What a test bench must be able to do.
 #[derive(Clone, Copy, Debug, PartialEq, Eq)]
 pub struct Needs {
     /// Show the controller a recessive level while it drives dominant.
     pub forced: bool,
-    /// Ask for overload frames of the controller's own.
+    /// Request overload frames of the controller.
     pub hold: bool,
-    /// Let more than one frame wait.
+    /// Let more than one frame be pending.
     pub queue: bool,
-    /// Let the controller leave bus off by itself.
+    /// Let the controller leave bus-off by itself.
     pub recovery: bool,
 }
 
-/// Places where the standard leaves a choice, or is read in more than one way, on which an expectation
-/// rests.
+/// Points that the standard leaves open, or that are read in more than one way, on which an expected result depends.
 #[derive(Clone, Copy, Debug, PartialEq, Eq)]
 pub enum Choice {
     ReservedLevels,
@@ -45,7 +44,7 @@ pub enum Choice {
 }
 
 impl Choice {
-    /// The word that names it.
+    /// Returns the word that names this choice.
     pub fn word(self) -> &'static str
         ensures { result.now ≡ choice_word self }
     {
@@ -63,7 +62,7 @@ impl Choice {
     }
 }
 
-/// How many bytes a purpose may have.
+/// A purpose has at most this number of bytes.
 const LONGEST_PURPOSE: usize = 200;
 
 /// Whether a text is one line of at most 200 bytes.
@@ -73,14 +72,14 @@ pub(crate) fn is_purpose(text: &str) -> bool
     text.len() <= LONGEST_PURPOSE && is_one_line(text.as_bytes())
 }
 
-/// Whether none is the end of a line.
+/// Whether none of these bytes ends a line.
 fn is_one_line(bytes: &[u8]) -> bool
     ensures { result ≡ list_all (λ byte. not (byte == 10)) bytes.now }
 {
     bytes.iter().all(|byte| *byte != b'\n')
 }
 
-/// The start that a value says.
+/// The start that a value names.
 pub(crate) fn start_in(value: &Value) -> Option<Start>
     ensures { MatchOption result ((start : StartSaid) → ¬ SaysStart (view value.now) start) (SaysStart (view value.now)) }
 {
@@ -91,7 +90,7 @@ pub(crate) fn start_in(value: &Value) -> Option<Start>
     }
 }
 
-/// The needs that a case says; none where they are left out.
+/// The needs of a case; none if they are left out.
 pub(crate) fn needs_in(fields: &Table) -> Option<Needs>
     ensures { MatchOption result ((needs : NeedsSaid) → ¬ SaysNeeds (named (codes "needs") (table (table_view fields.now))) needs) (SaysNeeds (named (codes "needs") (table (table_view fields.now)))) }
 {
@@ -111,7 +110,7 @@ pub(crate) fn needs_in(fields: &Table) -> Option<Needs>
     })
 }
 
-/// Whether the list begins with this word, and what stands behind it.
+/// Whether the list begins with this word, and the rest after it.
 fn take_word<'a>(words: &'a [Value], word: &str) -> (bool, &'a [Value])
     ensures { TakesWord word.now (map view words.now) result.0 (map view result.1.now) }
 {
@@ -131,7 +130,7 @@ fn is_word(value: &Value, word: &str) -> bool
     }
 }
 
-/// The choices that a case says; none where they are left out.
+/// The choices of a case; none if they are left out.
 pub(crate) fn choices_in(alloc: Global, fields: &Table) -> Result<Option<Vec<Choice>>, AllocError>
     ensures { IfOk result (λ said. MatchOption said ((choices : List ChoiceSaid) → ¬ SaysChoices (named (codes "choices") (table (table_view fields.now))) choices) (λ choices. SaysChoices (named (codes "choices") (table (table_view fields.now))) choices.items)) }
 {
@@ -148,7 +147,7 @@ pub(crate) fn choices_in(alloc: Global, fields: &Table) -> Result<Option<Vec<Cho
     Ok(Some(choices))
 }
 
-/// The choice that a value says.
+/// The choice that a value names.
 fn choice_in(value: &Value) -> Option<Choice>
     ensures { MatchOption result ((choice : ChoiceSaid) → view value.now ≢ string (choice_word choice)) (λ choice. view value.now ≡ string (choice_word choice)) }
 {

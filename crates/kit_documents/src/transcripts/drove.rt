@@ -18,10 +18,10 @@ use document_values::field;
 use std::alloc::Global;
 use toml::{Table, Value};
 
-/// How many levels a transcript has at most.
+/// A transcript has at most this number of levels.
 const MOST_LEVELS: usize = 100_000;
 
-/// Reads the levels that were driven, of the transcript of this number, with these fields.
+/// Reads the driven levels of the transcript with this number from its fields.
 pub(crate) fn read_drove(
     alloc: Global,
     number: usize,
@@ -35,7 +35,7 @@ pub(crate) fn read_drove(
     let Some(values) = strings_in(fields) else {
         return Err(KitFault::in_transcript(number, TranscriptField::Drove));
     };
-    // One level more than there may be shows that there are too many.
+    // One level more than allowed is enough to show that there are too many.
     let levels = match read_strings(alloc, MOST_LEVELS + 1, values) {
         Ok(levels) => levels,
         Err(ElementFault::At(place)) => {
@@ -49,7 +49,7 @@ pub(crate) fn read_drove(
     Ok(levels)
 }
 
-/// The strings of the levels: at most 4096 of them.
+/// The strings of the levels: at most 4096.
 fn strings_in(fields: &Table) -> Option<&[Value]>
     ensures said { IfSome result (λ values. map view values.now ≡ drove_of (table (table_view fields.now))) }
     ensures met { OnSome result (IsRequired (IsArrayOf 0 4096) (named (codes "drove") (table (table_view fields.now)))) }

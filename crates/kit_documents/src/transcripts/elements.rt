@@ -14,7 +14,7 @@ use can_mac::Event;
 use document_values::{number, three_of, two_of, whole_number};
 use toml::Value;
 
-/// The highest count that is told.
+/// A transcript has no higher count than this.
 const MOST_COUNTS: u64 = 65_535;
 
 impl Element<TranscriptList> for Timed<Event> {
@@ -39,7 +39,7 @@ impl Element<TranscriptList> for Timed<Counters> {
     }
 }
 
-/// The counters that two numbers are, TEC and REC.
+/// The counters TEC and REC, in this order.
 fn counters_in(transmit: &Value, receive: &Value) -> Option<Counters>
     ensures { MatchOption result ((counters : CountersSaid) → ¬ SayCounters (view transmit.now) (view receive.now) counters) (SayCounters (view transmit.now) (view receive.now)) }
 {
@@ -48,7 +48,7 @@ fn counters_in(transmit: &Value, receive: &Value) -> Option<Counters>
     Some(Counters { transmit, receive })
 }
 
-/// The end that a value says.
+/// The end that a value describes.
 pub(crate) fn end_in(value: &Value) -> Option<Ending>
     ensures { MatchOption result ((end : EndingSaid) → ¬ SaysEnd (view value.now) end) (SaysEnd (view value.now)) }
 {

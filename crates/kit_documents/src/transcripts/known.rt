@@ -1,4 +1,4 @@
-//! What a transcript may be of: the cases that no transcript before it is of.
+//! The cases that have no transcript among the earlier ones.
 ghost use Rattle.std.specs.Prelude.{ℕ, ◌≡◌, List, [], ◌∷◌, ◌++◌, map, IfOk, IfSome, OnOk};
 ghost use Rattle.toml.specs.Data.{Data};
 ghost use Rattle.toml.specs.View.{view};
@@ -18,17 +18,17 @@ use toml::Value;
 pub(crate) struct Known<'a> {
     cases: &'a [Value],
     earlier: &'a [Value],
-    /// How many names a look through all of them takes for the transcripts together.
+    /// The number of names compared so far by searches of all cases and transcripts.
     looks: usize,
-    /// From how many on the places of the cases are kept.
+    /// When `looks` reaches this, an index of the cases is built.
     price: usize,
-    /// The places of the cases that none of the transcripts is of, by their names, where these are kept.
+    /// The index: the numbers of the cases without a transcript, by name, if it is kept.
     untold: Option<BTreeMap<&'a str, usize>>,
     ghost kept: { AreUntold untold (map view cases.now) (map view earlier.now) } by { AreUntold-prop untold (map view cases.now) (map view earlier.now) },
 }
 
 impl<'a> Known<'a> {
-    /// These cases and transcripts, which are looked through for a name.
+    /// These cases and transcripts, without an index.
     pub(crate) fn of(cases: &'a [Value], earlier: &'a [Value]) -> Known<'a>
         ensures cases { result.cases.now ≡ cases.now }
         ensures earlier { result.earlier.now ≡ earlier.now }
@@ -42,8 +42,8 @@ impl<'a> Known<'a> {
         }
     }
 
-    /// Keeps the places of the cases from here on, if the looks so far took as much time as that does. Where there is no
-    /// memory for it, each transcript still looks through all.
+    /// Builds the index if the searches so far took as much time as that does. If there is no memory for it, each
+    /// transcript is still found by a search.
     pub(crate) fn keep_where_it_pays(&mut self, alloc: Global)
         ensures cases { self.new.cases.now ≡ self.old.cases.now }
         ensures earlier { self.new.earlier.now ≡ self.old.earlier.now }
@@ -56,7 +56,7 @@ impl<'a> Known<'a> {
         self.untold = untold_of(alloc, self.cases, self.earlier).unwrap_or(None);
     }
 
-    /// The place of the first case of this name, if none of the transcripts is of it.
+    /// The number of the first case with this name, if it has no transcript yet.
     pub(crate) fn place_of(&self, name: &str) -> Option<usize>
         ensures { result ≡ untold_place_in (map view self.now.cases.now) (map view self.now.earlier.now) name.now }
     {
@@ -66,7 +66,7 @@ impl<'a> Known<'a> {
         }
     }
 
-    /// One more transcript, of the case at this place: these are the tables with it.
+    /// Adds a transcript of the case with number `place`. `earlier` are all tables, with the added one.
     pub(crate) fn add(&mut self, earlier: &'a [Value], last: &Value, place: usize)
         requires { map view earlier.now ≡ map view self.old.earlier.now ++ view last.now ∷ [] }
         ensures cases { self.new.cases.now ≡ self.old.cases.now }
@@ -81,7 +81,7 @@ impl<'a> Known<'a> {
     }
 }
 
-/// Takes out the place at a name, if places are kept.
+/// Removes a name from the index, if it is kept.
 fn take_out(untold: &mut Option<BTreeMap<&str, usize>>, name: &str)
     ensures { (cases earlier : List Data) (d : Data) → name.now ≡ case_of d → AreUntold untold.old cases earlier → AreUntold untold.new cases (earlier ++ d ∷ []) }
 {
@@ -91,13 +91,13 @@ fn take_out(untold: &mut Option<BTreeMap<&str, usize>>, name: &str)
     untold.remove(name);
 }
 
-/// How many looks take as much time as to keep the places of so many cases: each finds its own among the others.
+/// The number of comparisons that takes as much time as an index of `count` cases: each is placed among the others.
 fn price_of(count: usize) -> usize {
     let halvings = usize::BITS - count.leading_zeros();
     count.saturating_mul(halvings as usize)
 }
 
-/// The places of the cases that none of these transcripts is of, unless a name is too long.
+/// An index of the cases without a transcript; none if a name is too long.
 fn untold_of<'a>(
     alloc: Global,
     cases: &'a [Value],
@@ -114,8 +114,8 @@ fn untold_of<'a>(
     Ok(Some(places))
 }
 
-/// The places of these cases, of the first where several have one name. None are kept where one is longer than those that
-/// a document may have, since to find its place could take longer than to look through all.
+/// The numbers of these cases by name, of the first if several have the same name. There is no index if a name is
+/// longer than a document allows: to look that name up could take longer than to search all cases.
 fn places_of(alloc: Global, cases: &[Value]) -> Result<Option<BTreeMap<&str, usize>>, AllocError>
     ensures { IfOk result (λ kept. IfSome kept (λ places. HasUntold places (map view cases.now) [])) }
 {
@@ -130,7 +130,7 @@ fn places_of(alloc: Global, cases: &[Value]) -> Result<Option<BTreeMap<&str, usi
     Ok(Some(places))
 }
 
-/// Adds the place of a case of this name, if there is none yet.
+/// Adds the number of a case with this name, if there is none yet.
 fn add_place<'a>(
     places: &mut BTreeMap<&'a str, usize>,
     name: &'a str,
@@ -145,7 +145,7 @@ fn add_place<'a>(
     Ok(())
 }
 
-/// The place of the first of these cases that has the name, if none of these transcripts is of it.
+/// The number of the first of these cases with the name, if none of these transcripts belongs to it.
 fn untold_place(cases: &[Value], earlier: &[Value], name: &str) -> Option<usize>
     ensures { result ≡ untold_place_in (map view cases.now) (map view earlier.now) name.now }
 {
@@ -155,7 +155,7 @@ fn untold_place(cases: &[Value], earlier: &[Value], name: &str) -> Option<usize>
     place_where(cases, "name", name)
 }
 
-/// The place of the first of these tables that says this text in the field of this name.
+/// The number of the first of these tables with this text in this field.
 fn place_where(tables: &[Value], key: &str, text: &str) -> Option<usize>
     ensures { result ≡ place_in (λ value. field_text (named key.now value)) text.now (map view tables.now) }
 {

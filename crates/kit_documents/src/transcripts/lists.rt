@@ -15,20 +15,21 @@ use document_values::field;
 use std::alloc::Global;
 use toml::Table;
 
-/// How many elements a list has at most.
+/// A list has at most this number of elements.
 const MOST_ELEMENTS: usize = 100_000;
 
-/// All times are below this one. It is behind the last bit time of the longest case: what is told there is judged.
+/// All times are below this one. So a time may be after the last bit time of the longest case: an event there is
+/// judged.
 const TIME_END: u32 = 100_001;
 
-/// How far apart the times of a list are at least.
+/// The times of successive elements differ by at least this.
 const APART: u8 = 1;
 
 /// The lists of a transcript.
 #[derive(Clone, Copy, Debug, PartialEq, Eq)]
 pub(crate) enum TranscriptList {
     Events,
-    /// The counters behind each bit time that changed one.
+    /// The counters after each bit time that changed one.
     Counters,
 }
 
@@ -42,7 +43,7 @@ impl TranscriptList {
         }
     }
 
-    /// The list, as a refusal names it.
+    /// The list, as errors name it.
     fn field(self) -> TranscriptField
         ensures { result ≡ transcript_list_field self }
     {
@@ -52,7 +53,7 @@ impl TranscriptList {
         }
     }
 
-    /// Its element at a place, as a refusal names it.
+    /// The element with this number, as errors name it.
     fn element(self, place: usize) -> TranscriptField
         ensures { result ≡ transcript_element_field self place }
     {
@@ -63,7 +64,7 @@ impl TranscriptList {
     }
 }
 
-/// Reads a list of the transcript of this number, with these fields; nothing where it is left out.
+/// Reads a list of the transcript with this number from its fields; `None` if it is left out.
 pub(crate) fn read_list<T: Element<TranscriptList>>(
     alloc: Global,
     list: TranscriptList,

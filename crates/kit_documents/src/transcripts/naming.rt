@@ -1,4 +1,4 @@
-//! Which case a transcript is of.
+//! The case of a transcript.
 ghost use Rattle.std.specs.Prelude.{◌≡◌, codes, map, Some, IfNone, IfSome, OnSome};
 ghost use Rattle.toml.specs.Data.{table};
 ghost use Rattle.toml.specs.View.{table_view, view};
@@ -12,8 +12,8 @@ use crate::transcripts::known::Known;
 use document_values::field;
 use toml::Table;
 
-/// The place of the case that the fields of a transcript name: one of those known, which none of the earlier
-/// transcripts is of.
+/// The number of the case that the fields of a transcript name. It must be a known case that no earlier transcript
+/// belongs to.
 pub(crate) fn case_in(known: &Known<'_>, fields: &Table) -> Option<usize>
     ensures said { IfSome result (λ place. IsRequired (IsText (λ name. place_in case_name name (map view known.now.cases.now) ≡ Some place)) (named (codes "case") (table (table_view fields.now)))) }
     ensures met { OnSome result (IsRequired (IsText (IsUntold (map view known.now.cases.now) (map view known.now.earlier.now))) (named (codes "case") (table (table_view fields.now)))) }

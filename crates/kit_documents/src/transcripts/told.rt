@@ -30,13 +30,14 @@ const TRANSCRIPT_FIELDS: [&str; 6] = ["version", "case", "drove", "events", "cou
 /// A transcript of a document.
 #[derive(Debug, Drop)]
 pub struct Told {
-    /// The place of its case among the cases of the document, counted from 0.
+    /// The number of its case in the document, counted from 0.
     pub case: usize,
     pub transcript: Transcript,
 }
 
-/// Reads the transcripts of a document: tables, each of one of these cases, and no two of one. It fails with the first
-/// field that isn't as it has to be, or where memory runs out.
+/// Reads the transcripts of a document, each of one of these cases, and at most one of each.
+///
+/// The error is `Field` with the first invalid field, or `Memory` if an allocation failed.
 pub fn read_transcripts(
     alloc: Global,
     cases: &[Value],
@@ -58,8 +59,10 @@ pub fn read_transcripts(
     Ok(read)
 }
 
-/// Reads the transcript of this number, whose table this is: of one of these cases, which none of the earlier
-/// transcripts is of. It fails with the first field that isn't as it has to be, or where memory runs out.
+/// Reads the transcript with this number from its table. It must belong to one of these cases, and to none that an
+/// earlier transcript belongs to.
+///
+/// The error is `Field` with the first invalid field, or `Memory` if an allocation failed.
 pub fn read_transcript(
     alloc: Global,
     cases: &[Value],
@@ -75,7 +78,7 @@ pub fn read_transcript(
     read_behind(alloc, &Known::of(cases, earlier), number, value)
 }
 
-/// Reads the transcript of this number, whose table this is, of one of the cases known.
+/// Reads the transcript with this number from its table.
 fn read_behind(
     alloc: Global,
     known: &Known<'_>,
@@ -95,7 +98,7 @@ fn read_behind(
     Ok(Told { case, transcript })
 }
 
-/// Reads which of the cases known the transcript of this number is of, with these fields.
+/// Reads which case the transcript with this number belongs to.
 fn read_case(known: &Known<'_>, number: usize, fields: &Table) -> Result<usize, KitFault>
     ensures said { IfOk result (λ place. IsRequired (IsText (λ name. place_where case_name name (map view known.now.cases.now) ≡ Some place)) (named (codes "case") (table (table_view fields.now)))) }
     ensures met { OnOk result (AllMet (transcript_naming_demands (map view known.now.cases.now) (map view known.now.earlier.now) number (table (table_view fields.now)))) }
@@ -110,7 +113,7 @@ fn read_case(known: &Known<'_>, number: usize, fields: &Table) -> Result<usize, 
     case_in(known, fields).ok_or(KitFault::in_transcript(number, TranscriptField::Case))
 }
 
-/// Reads what the transcript of this number, with these fields, tells of the run of its case.
+/// Reads what the transcript with this number lists of the run of its case.
 fn read_telling(alloc: Global, number: usize, fields: &Table) -> Result<Transcript, KitFault>
     ensures said { IfOk result (SaysTelling (table (table_view fields.now))) }
     ensures told { IfOk result IsTold }
@@ -129,7 +132,7 @@ fn read_telling(alloc: Global, number: usize, fields: &Table) -> Result<Transcri
     })
 }
 
-/// Reads the end of the transcript of this number, with these fields; nothing where it is left out.
+/// Reads the end of the transcript with this number; `None` if it is left out.
 fn read_end(number: usize, fields: &Table) -> Result<Option<Ending>, KitFault>
     ensures said { IfOk result (SaysIfThere SaysEnd (named (codes "end") (table (table_view fields.now)))) }
     ensures met { OnOk result (AllMet (end_demands number (table (table_view fields.now)))) }

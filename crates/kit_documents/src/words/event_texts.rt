@@ -1,4 +1,4 @@
-//! Events and states as text.
+//! Writes events and states as text.
 ghost use Rattle.std.specs.Prelude.{◌≡◌, ◌++◌, codes, OnOk};
 ghost use Rattle.can_frame.specs.Text.{frame_text};
 ghost use Rattle.can_fault.specs.Words.{state_word};
@@ -10,7 +10,7 @@ use can_mac::{ErrorKind, Event};
 use document_values::push_text;
 use std::alloc::AllocError;
 
-/// Appends an event, as `received S 123 D 1 c3` or `error stuff`.
+/// Appends an event, such as `received S 123 D 1 c3` or `error stuff`.
 pub fn push_event(out: &mut Vec<u8>, event: &Event) -> Result<(), AllocError>
     ensures { OnOk result (out.new.items ≡ out.old.items ++ event_text event.now) }
 {
@@ -25,7 +25,7 @@ pub fn push_event(out: &mut Vec<u8>, event: &Event) -> Result<(), AllocError>
     }
 }
 
-/// Appends a word, and a frame's text behind it.
+/// Appends a word and the text of a frame.
 fn push_frame(out: &mut Vec<u8>, word: &[u8], frame: &Frame) -> Result<(), AllocError>
     ensures { OnOk result (out.new.items ≡ out.old.items ++ (word.now ++ frame_text frame.now)) }
 {
@@ -33,7 +33,7 @@ fn push_frame(out: &mut Vec<u8>, word: &[u8], frame: &Frame) -> Result<(), Alloc
     push_text(out, frame.text_bytes().as_slice())
 }
 
-/// Appends what kind of error was detected.
+/// Appends the kind of a detected error.
 fn push_error(out: &mut Vec<u8>, kind: ErrorKind) -> Result<(), AllocError>
     ensures { OnOk result (out.new.items ≡ out.old.items ++ (codes "error " ++ word_of_kind kind)) }
 {

@@ -1,4 +1,4 @@
-//! The event and the state that a text says.
+//! Reads events and states from text.
 ghost use Rattle.std.specs.Prelude.{ℕ, ◌≡◌, ◌≢◌, ◌++◌, List, None, MatchOption};
 ghost use Rattle.can_fault.specs.declared.state.State.{State as StateSaid};
 ghost use Rattle.can_frame.specs.Parts.{IsFrame, Parts};
@@ -11,7 +11,7 @@ use can_fault::State;
 use can_frame::Frame;
 use can_mac::{ErrorKind, Event};
 
-/// The event whose text this is, as [`push_event`](crate::push_event) writes it: no other spelling is taken.
+/// Returns the event with exactly this text, as [`push_event`](crate::push_event) writes it.
 pub fn read_event(text: &str) -> Option<Event>
     ensures { MatchOption result ((event : EventSaid) → ¬ SaysEvent text.now event) (SaysEvent text.now) }
 {
@@ -24,21 +24,21 @@ pub fn read_event(text: &str) -> Option<Event>
     event_in_words(text)
 }
 
-/// The frame whose text stands behind this word.
+/// The frame whose text follows this word.
 fn frame_behind(text: &str, word: &str) -> Option<Frame>
     ensures { MatchOption result ((f : Parts) → IsFrame f → text.now ≢ word.now ++ frame_text f) (λ f. IsFrame f × (text.now ≡ word.now ++ frame_text f)) }
 {
     frame_of(behind(text.as_bytes(), word.as_bytes())?)
 }
 
-/// The frame of this text.
+/// The frame with this text.
 fn frame_of(text: &[u8]) -> Option<Frame>
     ensures { MatchOption result ((f : Parts) → IsFrame f → text.now ≢ frame_text f) (λ f. IsFrame f × (text.now ≡ frame_text f)) }
 {
     Frame::from_text(text).ok()
 }
 
-/// The event of this text that tells of no frame.
+/// The event with this text, if it has no frame.
 fn event_in_words(text: &str) -> Option<Event>
     ensures { MatchOption result
         ((event : EventSaid) → event_frame event ≡ None → text.now ≢ event_text event)
@@ -58,7 +58,7 @@ fn event_in_words(text: &str) -> Option<Event>
     }
 }
 
-/// The state of this word: `active`, `passive` or `off`.
+/// Returns the state with this word: `active`, `passive` or `off`.
 pub fn read_state(word: &str) -> Option<State>
     ensures { MatchOption result ((state : StateSaid) → word.now ≢ state_word state) (λ state. word.now ≡ state_word state) }
 {
@@ -70,7 +70,7 @@ pub fn read_state(word: &str) -> Option<State>
     }
 }
 
-/// What stands behind this front, if the text begins with it.
+/// What follows this prefix, if the text begins with it.
 pub(crate) fn behind<'a>(text: &'a [u8], front: &[u8]) -> Option<&'a [u8]>
     ensures { MatchOption result ((rest : List ℕ) → text.now ≢ front.now ++ rest) (λ rest. text.now ≡ front.now ++ rest.now) }
 {

@@ -1,4 +1,4 @@
-//! Levels as tokens.
+//! Writes levels as tokens.
 ghost use Rattle.std.specs.Prelude.{◌≡◌, ◌++◌, IfOk, OnOk};
 ghost use Rattle.kit_documents.specs.LevelTokens.{behind_run, gap_before_literal, gap_before_run, levels_text, run_text};
 
@@ -6,10 +6,10 @@ use can_frame::Level;
 use document_values::{push_number, push_text};
 use std::alloc::AllocError;
 
-/// From how many levels on a run is written as `L*N`.
+/// A run of at least this length is written as `L*N`.
 const LONG_RUN: usize = 8;
 
-/// What stands before a run.
+/// What comes before a run.
 #[derive(Clone, Copy)]
 pub(crate) enum Before {
     Nothing,
@@ -20,7 +20,7 @@ pub(crate) enum Before {
 }
 
 impl Before {
-    /// What stands between it and a long run.
+    /// The gap between this and a long run.
     fn gap_before_run(self) -> &'static [u8]
         ensures { result.now ≡ gap_before_run self }
     {
@@ -30,7 +30,7 @@ impl Before {
         }
     }
 
-    /// What stands between it and levels one by one.
+    /// The gap between this and levels one by one.
     fn gap_before_literal(self) -> &'static [u8]
         ensures { result.now ≡ gap_before_literal self }
     {
@@ -41,7 +41,7 @@ impl Before {
     }
 }
 
-/// Appends levels as tokens: runs of eight and more as `L*N`, all else literally.
+/// Appends levels as tokens: a run of eight or more as `L*N`, the others one by one.
 pub fn push_levels(out: &mut Vec<u8>, levels: &[Level]) -> Result<(), AllocError>
     ensures { OnOk result (out.new.items ≡ out.old.items ++ levels_text levels.now) }
 {
@@ -64,7 +64,7 @@ pub fn push_levels(out: &mut Vec<u8>, levels: &[Level]) -> Result<(), AllocError
     Ok(())
 }
 
-/// Appends a run, and answers what it is to the next one.
+/// Appends a run, and returns what it is for the next one.
 fn push_run(
     out: &mut Vec<u8>,
     before: Before,

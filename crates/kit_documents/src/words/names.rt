@@ -1,12 +1,12 @@
-//! The names of cases and families.
+//! Names of cases and families.
 ghost use Rattle.std.specs.List.{list_all};
 ghost use Rattle.std.specs.Prelude.{◌≡◌, ◌↔◌, IsTrue};
 ghost use Rattle.kit_documents.specs.Names.{is_kit_name_byte, IsKitName};
 
-/// How many bytes the name of a case may have.
+/// The name of a case has at most this number of bytes.
 pub const LONGEST_NAME: usize = 80;
 
-/// Whether a text is 1 to so many letters from a to z, digits and hyphens.
+/// Returns whether a text consists of 1 to `most` letters from a to z, digits and hyphens.
 pub fn is_name(text: &str, most: usize) -> bool
     ensures { IsTrue result ↔ IsKitName most text.now }
 {

@@ -1,4 +1,4 @@
-//! The levels that a text says.
+//! Reads levels from text.
 ghost use Rattle.std.specs.Prelude.{ℕ, ◌≡◌, ◌≢◌, ◌<◌, ◌≤◌, ◌^◌, List, decimal, false, length, map, replicate, true, IfOk, MatchOption};
 ghost use Rattle.can_frame.specs.declared.level.Level.{Level as LevelSaid};
 ghost use Rattle.can_frame.specs.Levels.{digit_of};
@@ -8,11 +8,11 @@ use can_frame::Level;
 use itoa::Buffer;
 use std::alloc::AllocError;
 
-/// How many levels a token `L*N` has at most.
+/// A token `L*N` has at most this number of levels.
 const LONGEST_RUN: u32 = 100_000;
 
-/// Appends the levels that a text says, as far as the list then has at most so many, and answers whether it says
-/// some. The others are read too, and not kept.
+/// Appends the levels of a text until there are `most`, and returns whether it is a text of levels, with at least one.
+/// Further levels are read, but not kept.
 pub fn read_levels(levels: &mut Vec<Level>, most: usize, text: &str) -> Result<bool, AllocError>
     requires { length levels.old.items ≤ most }
     ensures said { IfOk result (λ said. said ≡ true → AddsLevels (SaysLevels text.now) most levels.old.items levels.new.items) }
@@ -29,7 +29,7 @@ pub fn read_levels(levels: &mut Vec<Level>, most: usize, text: &str) -> Result<b
     Ok(some)
 }
 
-/// Appends the levels that stand between two blanks, as far as there is room, and answers whether these are levels.
+/// Appends the levels of a piece between two spaces, until there are `most`. Returns whether it is one of levels.
 fn read_piece(levels: &mut Vec<Level>, most: usize, piece: &str) -> Result<bool, AllocError>
     requires { length levels.old.items ≤ most }
     ensures said { IfOk result (λ said. said ≡ true → AddsLevels (SaysPiece piece.now) most levels.old.items levels.new.items) }
@@ -46,7 +46,7 @@ fn read_piece(levels: &mut Vec<Level>, most: usize, piece: &str) -> Result<bool,
     Ok(true)
 }
 
-/// Appends the levels whose digits these are, as far as there is room, and answers whether they are digits of levels.
+/// Appends the levels with these digits, until there are `most`. Returns whether all are digits of levels.
 fn read_digits(levels: &mut Vec<Level>, most: usize, digits: &[u8]) -> Result<bool, AllocError>
     requires { length levels.old.items ≤ most }
     ensures said { IfOk result (λ said. said ≡ true → AddsLevels (λ read. digits.now ≡ map digit_of read) most levels.old.items levels.new.items) }
@@ -64,7 +64,7 @@ fn read_digits(levels: &mut Vec<Level>, most: usize, digits: &[u8]) -> Result<bo
     Ok(true)
 }
 
-/// The level of a token `L*N`, and how many there are.
+/// The level of a token `L*N`, and N.
 fn run_in(piece: &str) -> Option<(Level, u32)>
     ensures { MatchOption result ((levels : List LevelSaid) → ¬ IsRunToken piece.now levels) (λ run. IsRunToken piece.now (replicate run.1 run.0)) }
 {
@@ -89,7 +89,7 @@ fn count_in(digits: &str) -> Option<u32>
     Some(count)
 }
 
-/// The number of these digits, which has neither a sign nor a leading zero.
+/// The number with these digits, with neither a sign nor a leading zero.
 fn number_in(digits: &str) -> Option<u32>
     ensures { MatchOption result ((n : ℕ) → n < 2 ^ 32 → digits.now ≢ decimal n) (λ n. (n < 2 ^ 32) × (digits.now ≡ decimal n)) }
 {

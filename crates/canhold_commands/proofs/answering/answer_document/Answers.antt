@@ -6,7 +6,7 @@ use Rattle.canhold_commands.specs.declared.fault.CanholdFault.TheVariants.{Field
 use Rattle.canhold_commands.specs.Status.{kit_fault_of}
 use Rattle.canhold_commands.proofs.answering.answer_document.Goals as goal
 
--- a field that is told is the document's
+-- the invalid field is one of the document
 field-of : (fault : KitFault) (wrong : KitField) → kit_fault_of fault ≡ Field wrong → fault ≡ kit.Field wrong
 field-of (kit.Field other) wrong is = ap kit.Field (cc)
 field-of kit.Memory wrong is = absurd (cc)

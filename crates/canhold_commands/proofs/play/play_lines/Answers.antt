@@ -22,7 +22,7 @@ ended_line g c =
     let passes = PassesOn-flushed _ _ _ _ _ c.in_ok-next_line.ensures.write_failed flushed in
     (reads.line, reads.keeps, HasRead-next _ _ _ _ _ _ _ true 4102 c.loop-answer.lines c.next_line.new.self _ c.loop-answer.invariant.talking reads passes)
 
--- what came of the last line when the reader ended
+-- the outcome for the last line when the reader ended
 last_line : (g : Over) (c : Else-branch g) → (line : List ℕ)
     × HasRead (g.R.Source.remaining c.args.r.now) (g.R.Source.remaining c.next_line.new.source) (g.W.Sink.contents c.args.w.now) (g.W.Sink.contents c.next_line.new.sink)
     (option_map node_port c.loop-answer.adapter.node) false line c.next_line.new.self.inbox.unread c.next_line.new.self.inbox.taken

@@ -4,7 +4,7 @@ use Rattle.can_node.proofs.NodePort.{node_port}
 use Rattle.canhold_commands.proofs.Conversations.{IsTalking}
 use Rattle.canhold_commands.proofs.play.play_lines.Given as goal
 
--- all that was asked is answered, and nothing waits to be written
+-- all lines so far have their replies, and nothing waits to be written
 abbrev pub invariant-loop-answer : goal.invariant-loop-answer
 invariant-loop-answer g l =
     let source = g.R.Source in
