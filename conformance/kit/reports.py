@@ -6,6 +6,7 @@ import xml.etree.ElementTree as ET
 from dataclasses import dataclass
 from typing import Iterable
 
+from .choices import words_of
 from .documents import Case, Transcript
 from .playing import seen_levels
 
@@ -25,7 +26,8 @@ class Verdict:
     def line(self) -> str:
         """The line that a run prints."""
         if self.kind == "fail":
-            note = "".join(f"; choice {choice}" for choice in self.case.choices)
+            words = words_of(self.case, self.detail.partition(": ")[2])
+            note = "".join(f"; choice {word}" for word in words)
             return f"fail {self.case.name} at {self.detail}{note}"
         return f"{self.kind} {self.case.name}" + (f": {self.detail}" if self.detail else "")
 
