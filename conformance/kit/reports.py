@@ -44,6 +44,25 @@ def window_lines(case: Case, time: int, given: Transcript, expected: Transcript)
     return [*lines, f"  {' ' * (7 + time - front)}^ {time}"]
 
 
+def event_lines(time: int, given: Transcript, expected: Transcript) -> list[str]:
+    """The events around a bit time, reported and due, if they differ."""
+    if given.events is None:
+        return []
+    reported, due = dict(given.events), dict(expected.events or [])
+    times = [it for it in sorted({*reported, *due}) if time - SHOWN_BEFORE <= it < time + SHOWN_AFTER]
+    rows = [(str(it), reported.get(it, "nothing"), due.get(it, "nothing")) for it in times]
+    if all(one == other for _, one, other in rows):
+        return []
+    width = max(len(one) for _, one, _ in rows)
+    return [f"  {at:6} {one:{width}}  {other}" for at, one, other in [("event", "reported", "due"), *rows]]
+
+
+def shown_lines(case: Case, time: int, given: Transcript, expected: Transcript) -> list[str]:
+    """What --show prints after the line of a failure: the purpose of the case, the levels, and events that differ."""
+    purpose = [f"  {case.purpose}"] if case.purpose else []
+    return purpose + window_lines(case, time, given, expected) + event_lines(time, given, expected)
+
+
 def count_line(verdicts: Iterable[Verdict]) -> str:
     """The last line of a run: the number of verdicts of each kind."""
     kinds = [verdict.kind for verdict in verdicts]

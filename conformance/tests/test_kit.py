@@ -17,7 +17,7 @@ from kit.matrix import caught_by, cover, idle_cases, matrix, reason_faults
 from kit.mutations import Mutation, read_mutations
 from kit.models import controller, simulator
 from kit.playing import cuts
-from kit.reports import window_lines
+from kit.reports import event_lines, shown_lines, window_lines
 from kit.session import Session
 
 TOP = os.path.dirname(os.path.dirname(os.path.realpath(__file__)))
@@ -141,6 +141,27 @@ class Reports(unittest.TestCase):
             window_lines(case, 5, given, due),
             ["  tester 0101f1f11111111", f"  drove  {'1' * 15}", "  due    111110001111111", f"{' ' * 14}^ 5"],
         )
+
+    def test_the_events_around_a_failure(self) -> None:
+        """They are shown if they differ there, and if the adapter reports any."""
+        given = Transcript("some-case", "1" * 20, [(3, "error form"), (9, "lost")])
+        due = Transcript("some-case", "1" * 20, [(3, "error bit"), (7, "sent S 123 R 0"), (9, "lost")])
+        rows = [
+            "  event  reported    due",
+            "  3      error form  error bit",
+            "  7      nothing     sent S 123 R 0",
+            "  9      lost        lost",
+        ]
+        self.assertEqual(event_lines(3, given, due), rows)
+        self.assertEqual(event_lines(3, due, due), [])
+        self.assertEqual(event_lines(3, Transcript("some-case", "1" * 20), due), [])
+
+    def test_what_a_failure_is_about(self) -> None:
+        """The purpose comes first, if the case has one."""
+        case = read_document(CASE.replace("start =", 'purpose = "what it tests"\nstart ='))[0][0]
+        due = Transcript("some-case", "1" * 20)
+        shown = shown_lines(case, 5, Transcript("some-case", "0" * 20), due)
+        self.assertEqual(shown, ["  what it tests", *window_lines(case, 5, Transcript("some-case", "0" * 20), due)])
 
 
 class Matrix(unittest.TestCase):
