@@ -19,14 +19,12 @@ _END = re.compile(r"end (\w+) (\d+) (\d+) not (\w+) (\d+) (\d+)")
 
 
 def outcome(difference: str) -> str:
-    """What differs, without levels, frames and numbers: `drove`, `told received not nothing`, `end REC`."""
+    """What differs, without levels, frames and numbers: `drove`, both events, or as `end REC` parts of the end."""
     end = _END.fullmatch(difference)
     if end is not None:
         names = ("state", "TEC", "REC")
         return " ".join(["end", *(name for place, name in enumerate(names, 1) if end[place] != end[place + 3])])
-    if difference.startswith("told "):
-        return _FRAME.sub(r"\1", difference)
-    return difference.split(" ")[0]
+    return "drove" if difference.startswith("drove ") else _FRAME.sub(r"\1", difference)
 
 
 def outcomes(given: Transcript, expected: Transcript) -> list[str]:

@@ -8,7 +8,8 @@ import shutil
 import unittest
 
 from kit.choices import outcome
-from kit.documents import CHOICES
+from kit.comparing import differences
+from kit.documents import CHOICES, Transcript
 from kit.library import FOLDER, read_library
 from kit.readings import failed, faults, readings
 from kit.reports import Verdict
@@ -33,9 +34,13 @@ class Choices(unittest.TestCase):
 
     def test_what_differs(self) -> None:
         """Levels, frames and numbers are left out."""
-        frames = "told received E 1fffffff D 1 c3 not sent S 123 R 0"
-        self.assertEqual(outcome(frames), "told received not sent")
-        self.assertEqual(outcome("told error form not error bit"), "told error form not error bit")
+        rows = [
+            ("received E 1fffffff D 1 c3", "sent S 123 R 0", "received not sent"),
+            ("error form", "error bit", "error form not error bit"),
+        ]
+        for event, due, kinds in rows:
+            found = differences(Transcript("", "1", [(0, event)]), Transcript("", "1", [(0, due)]))
+            self.assertEqual(outcome(found[0][2]).partition(" ")[2], kinds)
         self.assertEqual(outcome("end active 0 119 not passive 0 127"), "end state REC")
         self.assertEqual([outcome(text) for text in ("drove 0 not 1", "drove nothing")], ["drove", "drove"])
 
