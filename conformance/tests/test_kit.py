@@ -7,6 +7,7 @@ import re
 import unittest
 
 from kit import toml_subset
+from kit.adapter import EVENT_EXAMPLES
 from kit.changes import changes
 from kit.comparing import differences
 from kit.documents import DocumentFault, Transcript, read_document, write_case, write_transcript
@@ -111,13 +112,20 @@ class Playing(unittest.TestCase):
         reasons = [
             ("true", "ended, status 0"),
             ("kill -9 $$", "ended, signal 9"),
-            ("echo hello", "protocol: 'hello'"),
+            ("echo hello", "protocol: 'hello', expected 'can-kit 1 NAME'"),
             ("echo error why", "error why"),
-            (f"echo {'x' * 70}", f"protocol: '{'x' * 60}' .."),
+            (f"echo {'x' * 70}", f"protocol: '{'x' * 60}' .., expected 'can-kit 1 NAME'"),
         ]
-        for answer in (f"drove {'1' * 20}\nstate active {'9' * 5000} 0", f"event {'9' * 5000} lost"):
+        for answer, shown, expected in (
+            (f"drove {'1' * 20}\nstate active {'9' * 5000} 0", " ..", "'state STATE TEC REC' or 'state unknown'"),
+            (f"event {'9' * 5000} lost", " ..", "'event K EVENT' with K from 0 to 19"),
+            ("event 3 lost\nevent 3 lost", "", "'event K EVENT' with K from 4 to 19"),
+            ("event 3 received X 0fffffff R 0", "", EVENT_EXAMPLES),
+            ("drove 11", "", "'drove LEVELS' with 20 of 0 and 1"),
+            ("drives 11", "", "'drove LEVELS' or 'event K EVENT'"),
+        ):
             start = f"printf 'can-kit 1 many\nready\n{answer}\n'; cat > /dev/null"
-            reasons.append((start, f"protocol: '{answer.splitlines()[-1][:60]}' .."))
+            reasons.append((start, f"protocol: '{answer.splitlines()[-1][:60]}'{shown}, expected {expected}"))
         for command, reason in reasons:
             with Session(["sh", "-c", command]) as session:
                 self.assertEqual([(one.kind, one.detail) for one in session.play_all([case])], [("void", reason)])
