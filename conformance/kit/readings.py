@@ -1,4 +1,4 @@
-"""Controllers that chose otherwise where the standard leaves a choice. Each case that one fails needs the choice's word.
+"""Controllers that chose otherwise where the standard leaves a choice: a case that one fails needs the word.
 
 mutations/choices.txt names these mutants of the controller in C, in lines `choice WORD: NAME..`, and has those that
 mutations/controller.txt lacks.
@@ -88,7 +88,7 @@ def further(found: list[Failed]) -> str:
     return _HEAD + "".join(f"\n{head}: {' '.join(dict.fromkeys(names))}\n" for head, names in cases.items())
 
 
-def faults(cases: list[Case], found: list[Failed]) -> list[str]:
+def word_faults(cases: list[Case], found: list[Failed]) -> list[str]:
     """What is wrong with the words in these cases and in kit/choices.txt; controllers that no case fails."""
     with open(FURTHER, encoding="ascii") as file:
         stale = file.read() != further(found)

@@ -11,7 +11,7 @@ from kit.choices import outcome
 from kit.comparing import differences
 from kit.documents import CHOICES, Transcript
 from kit.library import FOLDER, read_library
-from kit.readings import failed, faults, readings
+from kit.readings import failed, readings, word_faults
 from kit.reports import Verdict
 
 REPOSITORY = os.path.dirname(os.path.dirname(os.path.dirname(os.path.realpath(__file__))))
@@ -20,9 +20,9 @@ REPOSITORY = os.path.dirname(os.path.dirname(os.path.dirname(os.path.realpath(__
 class Choices(unittest.TestCase):
     @unittest.skipUnless(shutil.which("cc"), "cc is not installed")
     def test_each_case_has_the_words_of_its_choices(self) -> None:
-        """Each case that a controller fails that chose otherwise has the word, in its document or in kit/choices.txt."""
+        """It is in the case's document, or in kit/choices.txt."""
         cases = read_library([FOLDER])[0]
-        self.assertEqual(faults(cases, failed(cases, os.cpu_count() or 1)), [])
+        self.assertEqual(word_faults(cases, failed(cases, os.cpu_count() or 1)), [])
 
     def test_decisions_has_each_word(self) -> None:
         """The list of choices has the words that a verdict may print, and no others."""

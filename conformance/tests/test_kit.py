@@ -15,8 +15,8 @@ from kit.frames import Frame
 from kit.levels import read_levels, write_levels
 from kit.library import FOLDER, read_library
 from kit.matrix import caught_by, cover, idle_cases, matrix, reason_faults
-from kit.mutations import Mutation, read_mutations
 from kit.models import controller, simulator
+from kit.mutations import Mutation, read_mutations
 from kit.playing import cuts
 from kit.reports import event_lines, shown_lines, window_lines
 from kit.session import Session
