@@ -16,7 +16,10 @@ class Controller:
         """A new controller: idle, or, if joining, waiting for eleven recessive levels."""
 
     def offer(self, frame: str) -> None:
-        """Queues a frame, such as `S 123 D 2 c3a5`. It is pending from the next bit time on."""
+        """Queues a frame: standard, such as `S 123 D 2 c3a5`, or extended, such as `E 12345678 D 1 c3`.
+
+        It is pending from the next bit time on.
+        """
 
     def hold(self, overloads: int) -> None:
         """Requests this number of overload frames. `--without hold` skips such cases if yours sends none."""
@@ -28,8 +31,8 @@ class Controller:
     def sample(self, level: int) -> str | None:
         """Samples the level of the bus in this bit time.
 
-        Returns the event, such as `error stuff`, or None if there is none. A controller that does not report events
-        always returns None.
+        Returns the event, such as `error stuff`, `sent S 123 R 0` or `received E 12345678 D 1 c3`, or None if there is
+        none. A controller that does not report events always returns None.
         """
         return None
 

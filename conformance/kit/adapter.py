@@ -19,6 +19,7 @@ SECONDS_A_LEVEL = 0.001
 ENDING_SECONDS = 2.0
 MOST_SHOWN = 60
 MOST_DIGITS = 9
+EVENT_EXAMPLES = "an event such as 'error stuff', 'sent S 123 R 0' or 'received E 12345678 D 1 c3'"
 
 
 class Void(Exception):
@@ -29,10 +30,14 @@ class Skip(Exception):
     """The adapter does not play the case. The reason is the exception's text."""
 
 
-def _unexpected(line: bytes) -> Void:
+class NotStarted(OSError):
+    """The adapter's command can't be started. The reason is the exception's text."""
+
+
+def _unexpected(line: bytes, expected: str) -> Void:
     """Makes the case void: an unexpected reply. The reason shows the line, or its first bytes if it is long."""
-    text = ascii(line[:MOST_SHOWN].decode("latin-1"))
-    return Void(f"protocol: {text}" + (" .." if len(line) > MOST_SHOWN else ""))
+    text = ascii(line[:MOST_SHOWN].decode("latin-1")) + (" .." if len(line) > MOST_SHOWN else "")
+    return Void(f"protocol: {text}, expected {expected}")
 
 
 def _is_number(word: str) -> bool:
@@ -50,11 +55,14 @@ class Adapter:
     def __init__(self, command: Sequence[str], errors: IO[str] | None = None) -> None:
         """Starts it in a session of its own, so that it can be ended together with all that it starts.
 
-        Its standard error is the runner's, or goes to a file.
+        Its standard error is the runner's, or goes to a file. Raises NotStarted.
         """
-        self._process = subprocess.Popen(
-            list(command), stdin=subprocess.PIPE, stdout=subprocess.PIPE, stderr=errors, start_new_session=True
-        )
+        try:
+            self._process = subprocess.Popen(
+                list(command), stdin=subprocess.PIPE, stdout=subprocess.PIPE, stderr=errors, start_new_session=True
+            )
+        except OSError as reason:
+            raise NotStarted(f"the adapter can't be started: {reason}") from None
         self._selector = selectors.DefaultSelector()
         assert self._process.stdout is not None
         self._output = self._process.stdout.fileno()
@@ -70,13 +78,13 @@ class Adapter:
         line = self._read_line(time.monotonic() + GREETING_SECONDS)
         words = line.split(" ", 2)
         if words[:2] != ["can-kit", "1"] or len(words) != 3:
-            raise _unexpected(line.encode())
+            raise _unexpected(line.encode(), "'can-kit 1 NAME'")
         return words[2]
 
     def _read_line(self, deadline: float) -> str:
         while b"\n" not in self._pending:
             if len(self._pending) > LONGEST_LINE:
-                raise _unexpected(self._pending)
+                raise _unexpected(self._pending, f"a line of at most {LONGEST_LINE} bytes")
             if not self._selector.select(max(0.0, deadline - time.monotonic())):
                 raise Void("time-out")
             read = os.read(self._output, 65536)
@@ -87,7 +95,7 @@ class Adapter:
         if line.endswith(b"\r"):
             line = line[:-1]
         if len(line) >= LONGEST_LINE or not line.isascii():
-            raise _unexpected(line)
+            raise _unexpected(line, f"at most {LONGEST_LINE} bytes of ASCII")
         text = line.decode("ascii")
         if text.startswith("error ") or text == "error":
             raise Void(text)
@@ -116,7 +124,7 @@ class Adapter:
         if answer.startswith("skip "):
             raise Skip(answer[len("skip ") :])
         if answer != "ready":
-            raise _unexpected(answer.encode())
+            raise _unexpected(answer.encode(), "'ready' or 'skip REASON'")
 
     def offer(self, frame: str) -> None:
         """Offers the controller a frame."""
@@ -137,12 +145,16 @@ class Adapter:
             if word != "event":
                 break
             place, _, event = rest.partition(" ")
-            last = events[-1][0] if events else -1
-            if not _is_number(place) or not last < int(place) < len(levels) or not is_event(event):
-                raise _unexpected(line.encode())
+            least = events[-1][0] + 1 if events else 0
+            if not _is_number(place) or not least <= int(place) < len(levels):
+                raise _unexpected(line.encode(), f"'event K EVENT' with K from {least} to {len(levels) - 1}")
+            if not is_event(event):
+                raise _unexpected(line.encode(), EVENT_EXAMPLES)
             events.append((int(place), event))
-        if word != "drove" or len(rest) != len(levels) or rest.strip("01"):
-            raise _unexpected(line.encode())
+        if word != "drove":
+            raise _unexpected(line.encode(), "'drove LEVELS' or 'event K EVENT'")
+        if len(rest) != len(levels) or rest.strip("01"):
+            raise _unexpected(line.encode(), f"'drove LEVELS' with {len(levels)} of 0 and 1")
         return rest, events
 
     def end(self) -> State | None:
@@ -154,7 +166,7 @@ class Adapter:
             return None
         good = len(words) == 4 and words[0] == "state" and words[1] in ("active", "passive", "off")
         if not good or not (_is_number(words[2]) and _is_number(words[3])):
-            raise _unexpected(line.encode())
+            raise _unexpected(line.encode(), "'state STATE TEC REC' or 'state unknown'")
         return words[1], int(words[2]), int(words[3])
 
     def close(self) -> None:

@@ -6,6 +6,7 @@ import xml.etree.ElementTree as ET
 from dataclasses import dataclass
 from typing import Iterable
 
+from .choices import words_of
 from .documents import Case, Transcript
 from .playing import seen_levels
 
@@ -25,7 +26,8 @@ class Verdict:
     def line(self) -> str:
         """The line that a run prints."""
         if self.kind == "fail":
-            note = "".join(f"; choice {choice}" for choice in self.case.choices)
+            words = words_of(self.case, self.detail.partition(": ")[2])
+            note = "".join(f"; choice {word}" for word in words)
             return f"fail {self.case.name} at {self.detail}{note}"
         return f"{self.kind} {self.case.name}" + (f": {self.detail}" if self.detail else "")
 
@@ -40,6 +42,25 @@ def window_lines(case: Case, time: int, given: Transcript, expected: Transcript)
     rows = (("tester", seen_levels(case)), ("drove", given.drove), ("due", expected.drove))
     lines = [f"  {name:6} {levels[front:end]}" for name, levels in rows]
     return [*lines, f"  {' ' * (7 + time - front)}^ {time}"]
+
+
+def event_lines(time: int, given: Transcript, expected: Transcript) -> list[str]:
+    """The events around a bit time, reported and due, if they differ."""
+    if given.events is None:
+        return []
+    reported, due = dict(given.events), dict(expected.events or [])
+    times = [it for it in sorted({*reported, *due}) if time - SHOWN_BEFORE <= it < time + SHOWN_AFTER]
+    rows = [(str(it), reported.get(it, "nothing"), due.get(it, "nothing")) for it in times]
+    if all(one == other for _, one, other in rows):
+        return []
+    width = max(len(one) for _, one, _ in rows)
+    return [f"  {at:6} {one:{width}}  {other}" for at, one, other in [("event", "reported", "due"), *rows]]
+
+
+def shown_lines(case: Case, time: int, given: Transcript, expected: Transcript) -> list[str]:
+    """What --show prints after the line of a failure: the purpose of the case, the levels, and events that differ."""
+    purpose = [f"  {case.purpose}"] if case.purpose else []
+    return purpose + window_lines(case, time, given, expected) + event_lines(time, given, expected)
 
 
 def count_line(verdicts: Iterable[Verdict]) -> str:

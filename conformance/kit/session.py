@@ -5,7 +5,7 @@ from __future__ import annotations
 import time
 from typing import Iterable, Iterator, Sequence
 
-from .adapter import MOST_LEVELS, Adapter, Skip, Void
+from .adapter import MOST_LEVELS, Adapter, NotStarted, Skip, Void
 from .documents import Case, Transcript
 from .playing import play
 
@@ -56,6 +56,8 @@ class Session:
             transcript = play(case, self._adapter, self._batch)
         except Skip as reason:
             return None, "skip", str(reason)
+        except NotStarted:
+            raise
         except (Void, OSError) as reason:
             self._close()
             return None, "void", str(reason)
@@ -66,7 +68,7 @@ class Session:
         return transcript, "played", ""
 
     def play_all(self, cases: Iterable[Case]) -> Iterator[Played]:
-        """Plays each case in turn. Raises Stopped after the third void in a row."""
+        """Plays each case in turn. Raises Stopped after the third void in a row, NotStarted if no adapter starts."""
         for case in cases:
             begun = time.monotonic()
             transcript, kind, detail = self._play(case)

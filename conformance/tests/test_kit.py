@@ -7,6 +7,7 @@ import re
 import unittest
 
 from kit import toml_subset
+from kit.adapter import EVENT_EXAMPLES
 from kit.changes import changes
 from kit.comparing import differences
 from kit.documents import DocumentFault, Transcript, read_document, write_case, write_transcript
@@ -14,10 +15,10 @@ from kit.frames import Frame
 from kit.levels import read_levels, write_levels
 from kit.library import FOLDER, read_library
 from kit.matrix import caught_by, cover, idle_cases, matrix, reason_faults
-from kit.mutations import Mutation, read_mutations
 from kit.models import controller, simulator
+from kit.mutations import Mutation, read_mutations
 from kit.playing import cuts
-from kit.reports import window_lines
+from kit.reports import event_lines, shown_lines, window_lines
 from kit.session import Session
 
 TOP = os.path.dirname(os.path.dirname(os.path.realpath(__file__)))
@@ -111,13 +112,20 @@ class Playing(unittest.TestCase):
         reasons = [
             ("true", "ended, status 0"),
             ("kill -9 $$", "ended, signal 9"),
-            ("echo hello", "protocol: 'hello'"),
+            ("echo hello", "protocol: 'hello', expected 'can-kit 1 NAME'"),
             ("echo error why", "error why"),
-            (f"echo {'x' * 70}", f"protocol: '{'x' * 60}' .."),
+            (f"echo {'x' * 70}", f"protocol: '{'x' * 60}' .., expected 'can-kit 1 NAME'"),
         ]
-        for answer in (f"drove {'1' * 20}\nstate active {'9' * 5000} 0", f"event {'9' * 5000} lost"):
+        for answer, shown, expected in (
+            (f"drove {'1' * 20}\nstate active {'9' * 5000} 0", " ..", "'state STATE TEC REC' or 'state unknown'"),
+            (f"event {'9' * 5000} lost", " ..", "'event K EVENT' with K from 0 to 19"),
+            ("event 3 lost\nevent 3 lost", "", "'event K EVENT' with K from 4 to 19"),
+            ("event 3 received X 0fffffff R 0", "", EVENT_EXAMPLES),
+            ("drove 11", "", "'drove LEVELS' with 20 of 0 and 1"),
+            ("drives 11", "", "'drove LEVELS' or 'event K EVENT'"),
+        ):
             start = f"printf 'can-kit 1 many\nready\n{answer}\n'; cat > /dev/null"
-            reasons.append((start, f"protocol: '{answer.splitlines()[-1][:60]}' .."))
+            reasons.append((start, f"protocol: '{answer.splitlines()[-1][:60]}'{shown}, expected {expected}"))
         for command, reason in reasons:
             with Session(["sh", "-c", command]) as session:
                 self.assertEqual([(one.kind, one.detail) for one in session.play_all([case])], [("void", reason)])
@@ -141,6 +149,27 @@ class Reports(unittest.TestCase):
             window_lines(case, 5, given, due),
             ["  tester 0101f1f11111111", f"  drove  {'1' * 15}", "  due    111110001111111", f"{' ' * 14}^ 5"],
         )
+
+    def test_the_events_around_a_failure(self) -> None:
+        """They are shown if they differ there, and if the adapter reports any."""
+        given = Transcript("some-case", "1" * 20, [(3, "error form"), (9, "lost")])
+        due = Transcript("some-case", "1" * 20, [(3, "error bit"), (7, "sent S 123 R 0"), (9, "lost")])
+        rows = [
+            "  event  reported    due",
+            "  3      error form  error bit",
+            "  7      nothing     sent S 123 R 0",
+            "  9      lost        lost",
+        ]
+        self.assertEqual(event_lines(3, given, due), rows)
+        self.assertEqual(event_lines(3, due, due), [])
+        self.assertEqual(event_lines(3, Transcript("some-case", "1" * 20), due), [])
+
+    def test_what_a_failure_is_about(self) -> None:
+        """The purpose comes first, if the case has one."""
+        case = read_document(CASE.replace("start =", 'purpose = "what it tests"\nstart ='))[0][0]
+        due = Transcript("some-case", "1" * 20)
+        shown = shown_lines(case, 5, Transcript("some-case", "0" * 20), due)
+        self.assertEqual(shown, ["  what it tests", *window_lines(case, 5, Transcript("some-case", "0" * 20), due)])
 
 
 class Matrix(unittest.TestCase):

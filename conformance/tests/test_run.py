@@ -82,6 +82,13 @@ class Runs(unittest.TestCase):
             run = self.run_kit(options, ["true"])
             self.assertEqual((run.returncode, run.stdout, run.stderr), (2, "", f"run: {told}\n"))
 
+    def test_a_command_that_cannot_be_started(self) -> None:
+        """It ends the run at once."""
+        nowhere = self.path("nowhere")
+        run = self.run_kit([], [nowhere])
+        reason = f"the adapter can't be started: [Errno 2] No such file or directory: '{nowhere}'"
+        self.assertEqual((run.returncode, run.stdout, run.stderr), (2, "", f"run: {reason}\n"))
+
     def test_a_report_in_xml(self) -> None:
         """It has the adapter's own words, with question marks for characters that XML does not have."""
         command = ["sh", "-c", "printf 'error \\001 <why>\\n'"]

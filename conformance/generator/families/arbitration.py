@@ -121,7 +121,8 @@ def stuff(book: Book) -> None:
     for suffix, frame, number in book.rows(stuffed_places(), more_stuffed_places()):
         wire = Frame.parse(frame).wire()
         recessive = [place for place in wire.stuff if wire.levels[place] == "1"]
-        with book.case(suffix, f"recessive stuff bit {number + 1} of {frame} overridden", ["stuff-exception"]) as scene:
+        choices = [] if suffix.endswith("after-arbitration") else ["stuff-exception"]
+        with book.case(suffix, f"recessive stuff bit {number + 1} of {frame} overridden", choices) as scene:
             scene.anchor(frame)
             scene.sending(frame, recessive[number])
             scene.play("0", "the stuff bit dominant")

@@ -100,6 +100,8 @@ def _overload_run(scene: Scene) -> None:
     scene.play("0" * 16, "16 dominant bits after it")
 
 
+# the cases that rest on a choice
+CHOSEN = {"255-by-overload-flag": ["flag-error-once"]}
 LIMITS: list[tuple[str, str, Step]] = [
     ("248", "a TEC of 248 is not bus-off", _at_248(_nothing)),
     ("255", "a TEC of 255 is not bus-off", _at_247(_error)),
@@ -118,7 +120,7 @@ MORE_LIMITS = [("255-by-bit-error", "an overridden bit brings TEC to 255: not bu
 @family("bus-off-limit", "TEC at 255, 256 and above, by each cause; then the tester sends")
 def bus_off_limit(book: Book) -> None:
     for suffix, purpose, make in book.rows(LIMITS, MORE_LIMITS):
-        with book.case(suffix, purpose) as scene:
+        with book.case(suffix, purpose, CHOSEN.get(suffix, [])) as scene:
             make(scene)
             _tester_sends(scene)
 
@@ -301,7 +303,7 @@ def _beside_another(book: Book) -> None:
         scene.offer(OWN)
         scene.wins(OWN, LAST)
         scene.rest(3 + 3)
-    with book.case("one-later", "offered one bit time after a start of frame: it waits", PROMPT) as scene:
+    with book.case("one-later", "offered one bit time after a start of frame: it waits") as scene:
         scene.rest(5, "idle")
         levels = Frame.parse(LAST).wire().levels
         scene.play(levels[:1], f"sends {LAST}")

@@ -13,6 +13,7 @@ OWN = "S 155 D 2 5aa5"
 LATER = "S 355 D 1 a5"
 WINNER = "S 001 D 1 77"
 LOSER = "S 700 D 1 77"
+REC_127 = ["rec-127"]
 
 
 def passive_sender(scene: Scene, *offers: str, goal: int = 128) -> None:
@@ -57,7 +58,7 @@ def passive_limit(book: Book) -> None:
             if goal == 140:
                 scene.stuff_error()
                 scene.after_flag(8 * 16)
-    with book.case("rec-back", "a frame received brings REC back below the limit") as scene:
+    with book.case("rec-back", "a frame received brings REC back below the limit", REC_127) as scene:
         scene.rest(1, "idle")
         raise_rec(scene, 128)
         scene.receive(RECEIVED)
@@ -89,7 +90,7 @@ def passive_limit(book: Book) -> None:
 
 @family("rec-wraps", "REC to 255 and beyond, by dominant bits or by errors; then a frame")
 def rec_wraps(book: Book) -> None:
-    with book.case("by-runs", "dominant bits after a flag take REC to its maximum") as scene:
+    with book.case("by-runs", "dominant bits after a flag take REC to its maximum", REC_127) as scene:
         scene.rest(1, "idle")
         scene.stuff_error()
         scene.after_flag(8 * 32)
@@ -97,7 +98,7 @@ def rec_wraps(book: Book) -> None:
         scene.receive(RECEIVED)
         scene.rest(5)
         probe_rec(scene)
-    with book.case("by-errors", "single errors take REC to its maximum") as scene:
+    with book.case("by-errors", "single errors take REC to its maximum", REC_127) as scene:
         scene.rest(1, "idle")
         scene.stuff_error()
         scene.after_flag(8 * 30)
