@@ -106,7 +106,10 @@ def _library() -> ctypes.CDLL:
             return ctypes.CDLL(_SONAME)
         except OSError:
             pass
-    raise ImportError(f"libriddlesage.so is not at {' nor at '.join(map(str, places))}; bindings/build builds it")
+    raise ImportError(
+        f"libriddlesage.so is not at {' nor at '.join(map(str, places))}; the wheel of a release has it, bindings/build "
+        "builds it, and RIDDLESAGE_LIBRARY may name it"
+    )
 
 
 lib = _library()
