@@ -22,7 +22,7 @@
 //! | `details.rt`, `left_text.rt` | the answer with details, as text | `specs/Details.antt` |
 //! | `laws.rt` | [`one_plan_field`]: of bytes at most one field is told | `specs/Plans.antt` |
 //! | `fault.rt` | [`PlanFault`], why a document is not read | |
-//! | `field.rt` | [`PlanField`], what is wrong in one | |
+//! | `field.rt` | [`PlanField`], what is wrong in one, and what it must be in words | |
 //! | `timelines.rt` | [`timeline`], a network's document and the name of a message in, the scenario out | `specs/Timelines.antt` |
 //! | `case.rt` | [`WorstCase`], which frames are offered when | `specs/Worst.antt` |
 //! | `worst.rt` | [`worst_case`], which are in the worst case | `specs/Worst.antt` |
@@ -79,7 +79,7 @@ pub use analysis::analysed;
 pub use answer::{Answer, Form, answered, answered_in};
 pub use canplan_fault::CanplanFault;
 pub use case::{Sequence, WorstCase};
-pub use executing::{NAME, execute};
+pub use executing::{CANPLAN, execute};
 pub use fault::PlanFault;
 pub use field::{MessageField, PlanField};
 pub use help::{HELP, VERSION};

@@ -32,12 +32,14 @@
 //! | `laws.rt` | [`one_case`], [`one_told`]: a table says at most one case, or one transcript | `specs/Cases.antt`, `specs/Transcripts.antt` |
 //! | `fault.rt` | [`KitFault`], why a document is not read | |
 //! | `field.rt` | [`KitField`], what is wrong in one | |
+//! | `field_words.rt` | what each field must be, in words: [`KitField::words`] | |
 #![tactic(auto)]
 
 mod cases;
 mod elements;
 mod fault;
 mod field;
+mod field_words;
 mod laws;
 mod strings;
 mod tables;
