@@ -49,9 +49,7 @@ impl RunFault for TraceFault {
             TraceFault::Write => "standard output could not be written",
             TraceFault::Memory => "not enough memory",
             TraceFault::Long => "the input has more than 2^63 bytes",
-            TraceFault::BadByte { .. }
-            | TraceFault::ScenarioField(_)
-            | TraceFault::FrameLine { .. } => "",
+            _ => "",
         }
     }
 }
