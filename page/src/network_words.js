@@ -1,4 +1,4 @@
-/** What is wrong in a network, in words. */
+/** What the fields of a network are called, and what its answer says in words. */
 import { ANSWER } from './core.js';
 
 /** The numbers of the fields of which more is told. */

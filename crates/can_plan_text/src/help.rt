@@ -2,7 +2,7 @@
 
 /// What the program does, its faults and its statuses.
 pub const HELP: &str = "\
-Response time analysis of a CAN network, proved: an upper bound for each message
+Proved response time analysis of a CAN network: an upper bound for each message
 
 Usage: canplan [--help]
        canplan --details
@@ -60,7 +60,7 @@ MESSAGE, such as 'S 300 D', without bit errors. It and all messages of higher
 priority are queued at bit time 1, and then as often as their periods allow; one
 of lower priority is queued a bit time earlier.
 
-Faults, on standard error, such as canplan: P3 read: standard input could not be read
+Faults, as lines on standard error, such as canplan: P5 memory: not enough memory
   P2 FIELD           the first field of the document that is wrong, such as
                      P2 message[3].period, and what it must be; nothing is written
   P3 read, P4 write  standard input could not be read, standard output not be written

@@ -27,7 +27,7 @@ Verilog has three forms of statement, a line each:
   assign told[0] = ~n4001; an output
   phase[0] <= n4711;       the next value of a register
 
-Faults, on standard error, such as cangates: P4 write: standard output could not be written
+Faults, as lines on standard error, such as cangates: P5 memory: not enough memory
   P4 write           standard output could not be written
   P5 memory          not enough memory for the command line or the circuit
   usage              unknown or missing arguments

@@ -2,7 +2,7 @@
 
 /// What the program does, its faults and its statuses.
 pub const HELP: &str = "\
-The reference of the conformance kit for classical CAN controllers, proved
+Proved reference of the conformance kit for classical CAN controllers
 
 Usage: canhold COMMAND [--help]
        canhold --version
@@ -33,7 +33,7 @@ play reads standard input and replies to each line before it reads the next one:
   quit             ends the program
 The reply to any other line begins with error.
 
-Faults, on standard error, such as canhold: P3 read: standard input could not be read
+Faults, as lines on standard error, such as canhold: P5 memory: not enough memory
   P2 FIELD           the first field of the document that is wrong, such as
                      P2 case[3].tester[1] of CASE, and what it must be; CASE is
                      the name in its table, if there is one; nothing is written
