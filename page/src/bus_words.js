@@ -34,16 +34,16 @@ const IN_PORT = ['', '.key', '.queue', '.queue[#]', '.log', '.join', '.hold'];
 const LISTS = ['at', 'in', 'view'];
 
 const WHY = Object.freeze([
-  'This is no TOML document.', 'A name at the top is not one of a scenario’s, or not of this version.', 'The version is 1 or 2.', 'The number of bit times is 0 to 1000000.',
-  'There are 1 to 64 ports, each a table [[port]].', 'A port is a table.', 'A name of this port is not one of a port’s.', 'A queue is an array.',
-  'In version 1 an element is a frame text; in version 2 an array of a time, 0 to 1000000, and a frame text.', 'A log has room for 0 to 65536 entries.', 'This is true or false.',
-  'A port asks for 0, 1 or 2 overload frames.', 'This is an array of times.', 'This is an array of [attempt, offset].', 'This is an array of [time, node].',
-  'A time is a whole number, above the one before it.', 'An element is [attempt, offset], above the one before it.', 'An element is [time, node] with a node that there is, above the one before it.', '',
+  'must be a TOML document in UTF-8.', 'a field at the top must be version, bits or port; in version 1 also at, in or view.', 'must be 1 or 2.', 'must be 0 to 1000000 bit times.',
+  'must be an array of 1 to 64 tables, [[port]].', 'must be a table, [[port]].', 'a field of this table must be queue, log, join or hold.', 'must be an array.',
+  'must be a frame text in version 1; in version 2 an array of a time, 0 to 1000000, and a frame text.', 'must be 0 to 65536 entries.', 'must be true or false.',
+  'must be 0, 1 or 2 overload frames.', 'must be an array of times.', 'must be an array of [attempt, offset].', 'must be an array of [time, node].',
+  'must be a time, a whole number above the preceding one.', 'must be [attempt, offset], above the preceding one.', 'must be [time, node] with the number of a port, above the preceding one.', '',
 ]);
 
 /**
  * @param {import('./core.js').WrongField} wrong
- * @returns {{code: string, why: string}} the field as canbit names it, and what may stand there
+ * @returns {{code: string, why: string}} the field as canbit names it, and what it must be
  */
 export function wrongWords({ field, number, element }) {
   const why = WHY[field];

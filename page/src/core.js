@@ -47,6 +47,7 @@ export const ANSWER = Object.freeze({
  * @property {number} field the number of the field
  * @property {number} number the port, the place in a list of disturbances, or the message
  * @property {number} element the element of the port's queue
+ * @property {string} [words] of a network: what the field must be
  */
 
 /**
@@ -244,7 +245,8 @@ export class Core {
     const slice = this.put(rooms.text, text);
     this.calls.page_heap_begin(rooms.next);
     const answer = this.calls.page_plan(...slice, Number(details), rooms.lines, rooms.count, rooms.wrong);
-    return { answer, wrong: this.wrong(), late: this.number(rooms.count), lines: this.answered(answer) };
+    const wrong = { ...this.wrong(), words: answer === ANSWER.badPlan ? new TextDecoder().decode(this.written()) : '' };
+    return { answer, wrong, late: this.number(rooms.count), lines: this.answered(answer) };
   }
 
   /**
@@ -270,7 +272,12 @@ export class Core {
 
   /** The lines that a call has written, if it has done what it says. @param {number} answer */
   answered(answer) {
-    return answer === ANSWER.done ? this.copy(this.rooms.lines + LINES_FRONT, this.number(this.rooms.lines)) : new Uint8Array();
+    return answer === ANSWER.done ? this.written() : new Uint8Array();
+  }
+
+  /** What a call has written where lines go. */
+  written() {
+    return this.copy(this.rooms.lines + LINES_FRONT, this.number(this.rooms.lines));
   }
 
   /**

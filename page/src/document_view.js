@@ -90,7 +90,7 @@ export class DocumentView {
   refuseField(wrong) {
     const { code, place, inside, why } = this.faultIn(wrong);
     this.form.mark(code);
-    this.refuse([html('strong', {}, [`P2 ${code}`]), place, ': ', ...inside, why], `The ${this.of.what} is wrong: P2 ${code}${place}.`);
+    this.refuse([html('strong', {}, [`P2 ${code}`]), place, ': ', why, ...inside], `The ${this.of.what} is wrong: P2 ${code}${place}.`);
   }
 
   refuseForMemory() { this.refuse([`The ${this.of.what} needs more memory than this page has. The program ${this.of.program} has no such limit.`]); }

@@ -1,6 +1,6 @@
 /** What is wrong in a network, and where. */
 import { ANSWER } from './core.js';
-import { WRONG, wrongWords } from './network_words.js';
+import { WRONG, wrongName } from './network_words.js';
 import { ERROR_NAMES, MESSAGE_NAMES, TOP_NAMES } from './network_text.js';
 import { textFault } from './text_fault.js';
 import { firstUnknown, placeWords, scanned, stopWords } from './toml_places.js';
@@ -12,9 +12,9 @@ import { firstUnknown, placeWords, scanned, stopWords } from './toml_places.js';
  * @returns {{code: string, place: string, inside: Array<Node | string>, why: string}}
  */
 export function networkFault(core, text, wrong) {
-  const { code, why } = wrongWords(wrong);
+  const code = wrongName(wrong);
   const { offset, inside } = detail(core, wrong, code, scanned(text));
-  return { code, place: placeWords(text, offset), inside, why };
+  return { code, place: placeWords(text, offset), inside, why: `${wrong.words}.` };
 }
 
 /** The offset of what is wrong, and the words about it. */
@@ -31,5 +31,5 @@ function wrongHead(core, head) {
   if (head === undefined) return [];
   const bytes = new TextEncoder().encode(head);
   const { answer, place } = core.encode(new TextEncoder().encode(`${head} 0`));
-  return answer === ANSWER.done || place >= bytes.length ? [] : [...textFault(bytes, answer, place), '. '];
+  return answer === ANSWER.done || place >= bytes.length ? [] : [' ', ...textFault(bytes, answer, place), '.'];
 }

@@ -1,4 +1,4 @@
-/** What is wrong in a network, in words. */
+/** What the fields of a network are called, and what its answer says in words. */
 import { ANSWER } from './core.js';
 
 /** The numbers of the fields about which more is shown. */
@@ -13,22 +13,12 @@ const NAMES = Object.freeze([
   '', '.key', '.frame', '.dlc', '.period', '.jitter', '.deadline', '', '.name', '.name',
 ]);
 
-const TIME = 'a whole number from 0 to 4294967295';
-
-const WHY = Object.freeze([
-  'This is no TOML document.', 'A name at the top is not one of a network’s.', 'The version is 1.', 'The rate is 0 to 1000000 bits a second.', 'Errors are a table.',
-  'A name of the errors is not one of theirs.', 'A burst is 0 to 65535 hits.', `A spacing is ${TIME}: 0, or a bit time at least.`, 'There are 1 to 512 messages, each a table [[message]].',
-  'A message is a table.', 'A name of this message is not one of a message’s.', 'A frame is named by its kind, its identifier and D or R, as “S 100 D”: its DLC stands by itself.', 'A DLC is 0 to 15.',
-  `A period is ${TIME}, and a bit time at least.`, `A jitter is ${TIME}.`, `A deadline is ${TIME}.`, 'A message before it has frames of the same arbitration field.',
-  'A name is 1 to 64 printable characters of ASCII, without quotation marks and backslashes.', 'A message before it has this name.',
-]);
-
 /**
  * @param {import('./core.js').WrongField} wrong
- * @returns {{code: string, why: string}} the field as canplan names it, and what may stand there
+ * @returns {string} the field as canplan names it
  */
-export function wrongWords({ field, number }) {
-  return { code: field < IN_MESSAGE ? NAMES[field] : `message[${number}]${NAMES[field]}`, why: WHY[field] };
+export function wrongName({ field, number }) {
+  return field < IN_MESSAGE ? NAMES[field] : `message[${number}]${NAMES[field]}`;
 }
 
 /**

@@ -40,5 +40,5 @@ function wrongFrame(core, frame) {
   if (frame === undefined) return [];
   const bytes = new TextEncoder().encode(frame);
   const { answer, place } = core.encode(bytes);
-  return answer === ANSWER.done ? [] : [...textFault(bytes, answer, place), '. '];
+  return answer === ANSWER.done ? [] : [' ', ...textFault(bytes, answer, place), '.'];
 }

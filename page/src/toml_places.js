@@ -257,7 +257,7 @@ export function placeWords(text, offset) {
 /** Where a text stops being a document, and why. @param {ReturnType<typeof scanned>} found */
 export function stopWords({ stopped }) {
   if (!stopped) return { inside: [] };
-  return { offset: stopped.offset, inside: [`${stopped.message[0].toUpperCase()}${stopped.message.slice(1)}. `] };
+  return { offset: stopped.offset, inside: [` ${stopped.message[0].toUpperCase()}${stopped.message.slice(1)}.`] };
 }
 
 /**
@@ -268,5 +268,5 @@ export function stopWords({ stopped }) {
  */
 export function firstUnknown({ names }, table, known) {
   const wrong = names.find((one) => one.table === table && !known.includes(one.name));
-  return wrong ? { offset: wrong.offset, inside: [`The name is “${wrong.name}”. `] } : { inside: [] };
+  return wrong ? { offset: wrong.offset, inside: [` The name is “${wrong.name}”.`] } : { inside: [] };
 }

@@ -177,13 +177,16 @@ const ROWS = [
   [...plan(NETWORK.replace('360', '361')), 0, { late: 0 }],
   [...plan(LONE, 1), 0, { late: 0, lines: DETAILS }],
   ...[
-    ['', 'version', 0, 0], ['', 'version = 2', 2, 0], ['rate = 1000001', '', 3, 0], ['', 'errors = 1', 4, 0], ['', '[errors]\nspace = 1', 5, 0], ['', '[errors]\nburst = 65536', 6, 0],
-    ['', '[errors]\nspacing = -1', 7, 0], ['', 'message = []', 8, 0], ['', 'message = [1]', 9, 0], ['', '[[message]]\nframes = 1', 10, 0],
-  ].map(([before, behind, field, place]) => [...plan(`${before}\n${field === 2 ? '' : 'version = 1'}\n${behind}\n`), 9, { late: 99, 'wrong 16': field, 'wrong 0': place, 'wrong 8': 0 }]),
+    ['', 'version', 0, 0, 'must be a TOML document in UTF-8'], ['', 'version = 2', 2, 0, 'must be 1'], ['rate = 1000001', '', 3, 0, 'must be 0 to 1000000 bits a second'],
+    ['', 'errors = 1', 4, 0, 'must be a table, [errors]'], ['', '[errors]\nspace = 1', 5, 0, 'a field of this table must be burst or spacing'], ['', '[errors]\nburst = 65536', 6, 0, 'must be 0 to 65535 hits'],
+    ['', '[errors]\nspacing = -1', 7, 0, 'must be 0, or at least one bit time, at most 4294967295'], ['', 'message = []', 8, 0, 'must be an array of 1 to 512 tables, [[message]]'],
+    ['', 'message = [1]', 9, 0, 'must be a table, [[message]]'], ['', '[[message]]\nframes = 1', 10, 0, 'a field of this table must be frame, dlc, period, jitter, deadline or name'],
+  ].map(([before, behind, field, place, lines]) => [...plan(`${before}\n${field === 2 ? '' : 'version = 1'}\n${behind}\n`), 9, { late: 99, 'wrong 16': field, 'wrong 0': place, 'wrong 8': 0, lines }]),
   ...[
-    ['period = 303', '', 13, 1], ['frame = "S 100 D"', 'frame = "S 100 D 7"', 11, 1], ['frame = "S 100 D"', 'frame = "S 300 D"', 16, 1], ['dlc = 7', 'dlc = 16', 12, 0],
-    ['deadline = 360', 'deadline = -1', 15, 2], ['deadline = 360', 'jitter = 4294967296', 14, 2],
-  ].map(([right, wrong, field, place]) => [...plan(NETWORK.replace(right, wrong)), 9, { late: 99, 'wrong 16': field, 'wrong 0': place, 'wrong 8': 0 }]),
+    ['period = 303', '', 13, 1, 'must be at least one bit time, at most 4294967295'], ['frame = "S 100 D"', 'frame = "S 100 D 7"', 11, 1, 'must be kind, identifier and D or R of a frame, such as \'S 100 D\', without the DLC'],
+    ['frame = "S 100 D"', 'frame = "S 300 D"', 16, 1, 'must differ in identifier or kind from every earlier message'], ['dlc = 7', 'dlc = 16', 12, 0, 'must be 0 to 15'],
+    ['deadline = 360', 'deadline = -1', 15, 2, 'must be a time of 0 to 4294967295'], ['deadline = 360', 'jitter = 4294967296', 14, 2, 'must be a time of 0 to 4294967295'],
+  ].map(([right, wrong, field, place, lines]) => [...plan(NETWORK.replace(right, wrong)), 9, { late: 99, 'wrong 16': field, 'wrong 0': place, 'wrong 8': 0, lines }]),
 
   [...worstCase(LONE, 'S 000 D'), 0, { lines: WORST }],
   ...['S 000 R', 'S 000 D 0', 'S 000', '', 'E 00000000 D', 'S 000 D                             '].map((name) => [...worstCase(LONE, name), 10, {}]),

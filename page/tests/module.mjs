@@ -40,7 +40,7 @@ const ANSWERS = {
   plan: (core, { numbers: [details], bytes }) => {
     const { answer, wrong, late, lines } = core.plan(bytes, details === 1);
     if (answer === ANSWER.done) return [byte(answer), number(late), lines];
-    return [byte(answer), ...(answer === ANSWER.badPlan ? [wrongField(wrong)] : [])];
+    return [byte(answer), ...(answer === ANSWER.badPlan ? [wrongField(wrong), encoder.encode(wrong.words)] : [])];
   },
   worstCase: (core, { numbers: [front], bytes }) => {
     const { answer, wrong, scenario } = core.worstCase(bytes.subarray(front), bytes.subarray(0, front));

@@ -145,8 +145,10 @@ static void plan(size_t length)
   size_t late = 0;
   uint8_t answer = page_plan(given, length, question[1] != 0, &lines, &late, &wrong);
   tell_byte(answer);
-  if (answer == BAD_PLAN)
+  if (answer == BAD_PLAN) {
     tell_wrong(&wrong);
+    tell(lines.bytes, lines.count);
+  }
   if (answer == DONE) {
     tell_number(late);
     tell(lines.bytes, lines.count);

@@ -154,6 +154,6 @@ export const networkTests = [
     assert.equal(await page.get("document.getElementById('network-bounds-back').disabled"), false);
     assert.match(await page.get("document.getElementById('network-name').textContent"), /^Shown: a network of [\d,]+ characters, which are too many for the field\.$/);
     await pasteNetwork(page, `${text}\n[[message]]\nframe = "S 000 D"\nperiod = 1000\n`);
-    assert.match((await networkFault(page)).text, /^P2 message \(line \d+, column 1\): There are 1 to 512 messages/);
+    assert.match((await networkFault(page)).text, /^P2 message \(line \d+, column 1\): must be an array of 1 to 512 tables/);
   }],
 ];

@@ -38,7 +38,7 @@ export const networkFaultTests = [
       const told = await networkFault(page);
       const where = place ? ` (line ${place[0]}, column ${place[1]})` : '';
       assert.ok(told.text.startsWith(`P2 ${code}${where}: `), `${text}: ${told.text}`);
-      assert.match(told.text, /[^.\s]\.$/, 'its last sentence ends with a stop');
+      assert.match(told.text, /: (must|a field) .*[^.\s]\.$/, 'it says what the field must be, and ends with a stop');
       assert.equal(told.shown, false);
       assert.deepEqual(told.invalid.filter((id) => id !== 'network-text'), fields, text);
       assert.equal(await page.get("document.getElementById('network-told').textContent"), `The network is wrong: P2 ${code}${where}.`);
@@ -52,8 +52,8 @@ export const networkFaultTests = [
       [`speed = 1\n${GOOD}`, 'key', /The name is “speed”\./],
       [`${GOOD}[errors]\nburst = 1\nrate = 2\n`, 'errors.key', /The name is “rate”\./],
       [`${GOOD}lag = 1\n`, 'message[0].key', /The name is “lag”\./],
-      [GOOD.replace('S 000 D', 'S 800 D'), 'message[0].frame', /X2 at 2: wrong in the identifier: .*S 800 D\. A frame is named by/],
-      [GOOD.replace('S 000 D', 'S 000 D 8'), 'message[0].frame', /: A frame is named by its kind, its identifier and D or R/],
+      [GOOD.replace('S 000 D', 'S 800 D'), 'message[0].frame', /: must be kind, identifier .* X2 at 2: wrong in the identifier: .*S 800 D\.$/],
+      [GOOD.replace('S 000 D', 'S 000 D 8'), 'message[0].frame', /: must be kind, identifier and D or R of a frame, such as 'S 100 D', without the DLC\.$/],
     ];
     for (const [text, code, words] of rows) {
       await fillNetwork(page, 'network-text', text);

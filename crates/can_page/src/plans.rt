@@ -10,13 +10,13 @@ ghost use Rattle.can_plan_text.specs.declared.field.PlanField.{PlanField as Wron
 use crate::answer::Answer;
 use crate::lines::Lines;
 use crate::plain::WrongField;
-use can_plan_text::{Form, PlanFault, answered_in};
+use can_plan_text::{Form, PlanFault, PlanField, answered_in};
 use can_stream::{Sink, write_all};
 use std::alloc::Global;
 
-/// Analyses the network in this text: writes the lines of `canplan` to `out`, with or without the parts of each bound,
-/// and to `late` how many messages may miss their deadline. If the text is not a valid network, the call writes the
-/// first wrong field to `wrong`.
+/// Analyses the network of a document: writes the lines of `canplan` to `out`, with the parts of each bound or without, and
+/// how many messages may miss their deadlines. If the document has no network, it writes the first field that is wrong, and to
+/// `out` what that field must be, in words.
 #[unsafe(no_mangle)]
 pub extern "C" fn page_plan(
     alloc: Global,
@@ -66,10 +66,19 @@ pub(crate) fn plan_onto<W: Sink>(
                 Err(_) => Answer::NoRoom,
             }
         }
-        Err(PlanFault::Field(field)) => {
-            *wrong = WrongField::in_plan(field);
-            Answer::BadPlan
-        }
+        Err(PlanFault::Field(field)) => refuse_field(field, out, wrong),
         Err(PlanFault::Memory) => Answer::NoMemory,
     }
+}
+
+/// Writes which field is wrong, and to `out` what it must be, in words. No clause says that the words are written: that is
+/// only tested.
+fn refuse_field<W: Sink>(field: PlanField, out: &mut W, wrong: &mut WrongField) -> Answer
+    requires { W.has_failed out.old ≡ false }
+    ensures answer { result ≡ Answer.BadPlan }
+    ensures wrong { wrong.new ≡ wrong_in_plan field }
+{
+    *wrong = WrongField::in_plan(field);
+    let _ = write_all(out, field.words().as_bytes());
+    Answer::BadPlan
 }

@@ -74,4 +74,18 @@ impl RunFault for CanplanFault {
             CanplanFault::Stream(fault) => fault.status(),
         }
     }
+
+    fn words(&self) -> &'static str {
+        match self {
+            CanplanFault::Field(wrong) => wrong.words(),
+            CanplanFault::MessageUnknown => {
+                "MESSAGE must be a frame of the document, such as 'S 300 D'"
+            }
+            CanplanFault::TimelineTooLong => {
+                "the busy period has more than 999999 bit times, or no end"
+            }
+            CanplanFault::DeadlinesMissed => "",
+            CanplanFault::Stream(fault) => fault.words(),
+        }
+    }
 }

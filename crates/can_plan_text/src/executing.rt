@@ -14,12 +14,15 @@ use crate::canplan_fault::CanplanFault;
 use crate::drawing::write_timeline;
 use crate::help::{HELP, VERSION};
 use crate::words::{Asked, message_of, read_words};
-use can_program::{WordsFault, conclude, refuse, write_help};
+use can_program::{Program, WordsFault, conclude, refuse, write_help};
 use can_stream::{Sink, Source};
 use std::alloc::Global;
 
-/// The program's name, before the line of a fault.
-pub const NAME: &str = "canplan";
+/// The program, whose faults are printed with words.
+pub const CANPLAN: Program = Program {
+    name: "canplan",
+    explains: true,
+};
 
 /// Does what the words ask for, and returns the exit status. The first word is the program's name. The other words
 /// decide what is done:
@@ -33,14 +36,14 @@ pub const NAME: &str = "canplan";
 ///
 /// | Status | Line | Why |
 /// |---|---|---|
-/// | 0 | none | all was done, and no message may miss its deadline, if bounds were asked for |
-/// | 1 | `canplan: P2 message[3].period` | the document is refused |
-/// | 1 | `canplan: message unknown` | no message of the network has the name |
-/// | 1 | `canplan: timeline too long` | no scenario is long enough for the worst case of the message |
-/// | 1 | `canplan: deadlines missed` | all was done, and some message may miss its deadline |
-/// | 2 | `canplan: usage` | the words are refused |
-/// | 3 | `canplan: P3 read`, `canplan: P4 write` | `r` or `w` failed |
-/// | 4 | `canplan: P5 memory` | memory ran out |
+/// | 0 | none | all was done, and each message is sure to meet its deadline, if the answer was asked for |
+/// | 1 | `canplan: P2 message[3].period: must be at least one bit time, at most 4294967295` | the document is refused |
+/// | 1 | `canplan: message unknown: ..` | no message of the network has the name |
+/// | 1 | `canplan: timeline too long: ..` | no scenario is long enough for the worst case of the message |
+/// | 1 | `canplan: deadlines missed` | all was done, and some message is not sure to |
+/// | 2 | `canplan: usage: ..` | the words are refused |
+/// | 3 | `canplan: P3 read: ..`, `canplan: P4 write: ..` | `r` or `w` failed |
+/// | 4 | `canplan: P5 memory: ..` | memory ran out |
 pub fn execute<R: Source, W: Sink, E: Sink>(
     alloc: Global,
     words: &[String],
@@ -88,12 +91,12 @@ pub fn execute<R: Source, W: Sink, E: Sink>(
     ensures no_fault_line { result ≡ 0 → e.new ≡ e.old }
 {
     match read_words(words) {
-        Some(Asked::Answer) => conclude(NAME, answer(alloc, Form::Brief, r, w), e),
-        Some(Asked::Details) => conclude(NAME, answer(alloc, Form::Detailed, r, w), e),
-        Some(Asked::Timeline) => conclude(NAME, draw(alloc, message_of(words), r, w), e),
-        Some(Asked::Help) => conclude(NAME, write_help(HELP, w), e),
-        Some(Asked::Version) => conclude(NAME, write_help(VERSION, w), e),
-        None => refuse(NAME, WordsFault::Usage, e),
+        Some(Asked::Answer) => conclude(CANPLAN, answer(alloc, Form::Brief, r, w), e),
+        Some(Asked::Details) => conclude(CANPLAN, answer(alloc, Form::Detailed, r, w), e),
+        Some(Asked::Timeline) => conclude(CANPLAN, draw(alloc, message_of(words), r, w), e),
+        Some(Asked::Help) => conclude(CANPLAN, write_help(HELP, w), e),
+        Some(Asked::Version) => conclude(CANPLAN, write_help(VERSION, w), e),
+        None => refuse(CANPLAN, WordsFault::Usage, e),
     }
 }
 

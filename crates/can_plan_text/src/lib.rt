@@ -21,7 +21,7 @@
 //! | `details.rt`, `left_text.rt` | the output with details, as text | `specs/Details.antt` |
 //! | `laws.rt` | [`one_plan_field`]: at most one field of bytes counts as the wrong one | `specs/Plans.antt` |
 //! | `fault.rt` | [`PlanFault`], why a document is refused | |
-//! | `field.rt` | [`PlanField`], what is wrong in a document | |
+//! | `field.rt` | [`PlanField`], what is wrong in a document, and what it must be, in words | |
 //! | `timelines.rt` | [`timeline`], from a network's document and the name of a message to the scenario | `specs/Timelines.antt` |
 //! | `case.rt` | [`WorstCase`], which frames are offered when | `specs/Worst.antt` |
 //! | `worst.rt` | [`worst_case`], the worst case of a message | `specs/Worst.antt` |
@@ -78,7 +78,7 @@ pub use analysis::analysed;
 pub use answer::{Answer, Form, answered, answered_in};
 pub use canplan_fault::CanplanFault;
 pub use case::{Sequence, WorstCase};
-pub use executing::{NAME, execute};
+pub use executing::{CANPLAN, execute};
 pub use fault::PlanFault;
 pub use field::{MessageField, PlanField};
 pub use help::{HELP, VERSION};

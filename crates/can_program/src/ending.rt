@@ -4,13 +4,14 @@ ghost use Rattle.std.specs.Io.KnownBytes.{Appends};
 ghost use Rattle.can_program.specs.Status.{exit_status, stream_status};
 
 use crate::fault::RunFault;
+use crate::program::Program;
 use arrayvec::ArrayString;
 use can_stream::{Sink, TraceFault, write_all};
 use std::fmt::Write;
 
-/// The capacity for the line of a fault, in bytes: 11 for the name, 66 for the text, 80 for what the fault is of, and 7
-/// between them and at the end.
-const LINE_ROOM: usize = 164;
+/// The room for a fault's line, in bytes: a name of 11, a code with its place of 66, what it is of with 80, words of 128, and
+/// nine between them and at the end.
+const LINE_ROOM: usize = 294;
 
 /// Writes the help text.
 pub fn write_help<W: Sink>(text: &str, w: &mut W) -> Result<(), TraceFault>
@@ -22,17 +23,18 @@ pub fn write_help<W: Sink>(text: &str, w: &mut W) -> Result<(), TraceFault>
     write_all(w, text.as_bytes())
 }
 
-/// Returns the exit status of this outcome of the program with this name, and writes the line of a fault to `e`.
-pub fn conclude<F: RunFault, E: Sink>(name: &str, outcome: Result<(), F>, e: &mut E) -> u8
+/// The exit status of this outcome of a program. A fault is printed as a line on `e`.
+pub fn conclude<F: RunFault, E: Sink>(program: Program, outcome: Result<(), F>, e: &mut E) -> u8
     ensures status { result ≡ exit_status F.status_of outcome }
     ensures silent { result ≡ 0 → e.new ≡ e.old }
 {
-    conclude_of(name, outcome, "", e)
+    conclude_of(program, outcome, "", e)
 }
 
-/// Does what [`conclude`] does. The line of a fault also has what the fault is of, if that is not empty.
+/// The exit status of this outcome of a program. A fault is printed as a line on `e`, with what it is of, if that is not
+/// empty.
 pub fn conclude_of<F: RunFault, E: Sink>(
-    name: &str,
+    program: Program,
     outcome: Result<(), F>,
     of: &str,
     e: &mut E,
@@ -42,41 +44,57 @@ pub fn conclude_of<F: RunFault, E: Sink>(
 {
     match outcome {
         Ok(()) => 0,
-        Err(fault) => refuse_of(name, fault, of, e),
+        Err(fault) => refuse_of(program, fault, of, e),
     }
 }
 
-/// Writes a fault of the program with this name as a line to `e`, and returns its exit status. A line that `e` does not
-/// take, or that has more than 164 bytes, is left out; the status is the same.
-pub fn refuse<F: RunFault, E: Sink>(name: &str, fault: F, e: &mut E) -> u8
+/// Prints a fault of a program as a line on `e`, and returns its exit status. A line that `e` does not take, or that has
+/// more than 294 bytes, is left out, and the status is the same.
+pub fn refuse<F: RunFault, E: Sink>(program: Program, fault: F, e: &mut E) -> u8
     ensures status { result ≡ F.status_of fault }
     ensures told { 0 < result }
 {
-    refuse_of(name, fault, "", e)
+    refuse_of(program, fault, "", e)
 }
 
-/// Does this, and writes what the fault is of, if that is not empty.
-fn refuse_of<F: RunFault, E: Sink>(name: &str, fault: F, of: &str, e: &mut E) -> u8
+/// Prints a fault of a program with what it is of, if that is not empty, and returns its exit status.
+fn refuse_of<F: RunFault, E: Sink>(program: Program, fault: F, of: &str, e: &mut E) -> u8
     ensures status { result ≡ F.status_of fault }
     ensures told { 0 < result }
 {
     let mut line = ArrayString::<LINE_ROOM>::new();
-    if !e.failed() && write_fault(&mut line, name, fault, of).is_ok() {
+    if !e.failed() && write_fault(&mut line, program, fault, of).is_ok() {
         let _ = write_all(e, line.as_bytes());
     }
     fault.status()
 }
 
-/// Writes the line of a fault.
+/// Writes the line of a fault: the program's name, the code with its place, what it is of, and the words, if the program
+/// prints them.
 fn write_fault<F: RunFault>(
+    line: &mut ArrayString<LINE_ROOM>,
+    program: Program,
+    fault: F,
+    of: &str,
+) -> std::fmt::Result {
+    write_code(line, program.name, fault, of)?;
+    let words = fault.words();
+    if program.explains && !words.is_empty() {
+        write!(line, ": {words}")?;
+    }
+    writeln!(line)
+}
+
+/// Writes a program's name, the code of a fault with its place, and what it is of.
+fn write_code<F: RunFault>(
     line: &mut ArrayString<LINE_ROOM>,
     name: &str,
     fault: F,
     of: &str,
 ) -> std::fmt::Result {
     if of.is_empty() {
-        writeln!(line, "{name}: {fault}")
+        write!(line, "{name}: {fault}")
     } else {
-        writeln!(line, "{name}: {fault} of {of}")
+        write!(line, "{name}: {fault} of {of}")
     }
 }

@@ -1,5 +1,5 @@
-//! Why a run has not done all that was asked.
-ghost use Rattle.std.specs.Prelude.{◌≡◌, ◌⊎◌, ◌↔◌, ◌<◌, ℕ};
+//! Why a run did not do all that it was asked.
+ghost use Rattle.std.specs.Prelude.{◌≡◌, ◌⊎◌, ◌↔◌, ◌<◌, ◌≤◌, length, ℕ};
 ghost use Rattle.can_program.specs.Status.{stream_status, words_status};
 
 use can_stream::TraceFault;
@@ -8,8 +8,9 @@ use std::io;
 use std::io::ErrorKind;
 use thiserror::Error;
 
-/// Why a run has not done all that was asked. Its text, at most 66 bytes, is written to standard error, and its status
-/// is the exit status. Each program has faults of its own, such as the fields of the documents that it reads.
+/// Why a run did not do all that it was asked. Its text is a code with a place, of at most 66 bytes. A program prints it on
+/// standard error, and its status is the exit status. Each program has faults of its own, such as the fields of the
+/// documents that it reads.
 pub trait RunFault: Display + Copy {
     /// The exit status of each fault.
     ghost status_of: { Self → ℕ };
@@ -18,6 +19,13 @@ pub trait RunFault: Display + Copy {
     fn status(&self) -> u8
         ensures status { result ≡ status_of self.now }
         ensures told { 0 < result };
+
+    /// What is wrong, in words that follow the code; empty if there are none.
+    fn words(&self) -> &'static str
+        ensures short { length result.now ≤ 128 }
+    {
+        ""
+    }
 }
 
 /// The input was not read or is refused, the output was not written, or memory ran out.
@@ -32,6 +40,16 @@ impl RunFault for TraceFault {
             | TraceFault::FrameLine { .. } => 1,
             TraceFault::Read | TraceFault::Write => 3,
             TraceFault::Memory => 4,
+        }
+    }
+
+    fn words(&self) -> &'static str {
+        match self {
+            TraceFault::Read => "standard input could not be read",
+            TraceFault::Write => "standard output could not be written",
+            TraceFault::Memory => "not enough memory",
+            TraceFault::Long => "the input has more than 2^63 bytes",
+            _ => "",
         }
     }
 }
@@ -54,6 +72,13 @@ impl RunFault for WordsFault {
         match self {
             WordsFault::Usage => 2,
             WordsFault::Memory => 4,
+        }
+    }
+
+    fn words(&self) -> &'static str {
+        match self {
+            WordsFault::Usage => "unknown or missing arguments, see --help",
+            WordsFault::Memory => "not enough memory",
         }
     }
 }

@@ -5,14 +5,15 @@ ghost use Rattle.can_stream.specs.Wrapped.{read_ended, read_failed, write_failed
 
 use crate::ending::refuse;
 use crate::fault::WordsFault;
+use crate::program::Program;
 use can_stream::{FromRead, Sink, ToWrite};
 use std::io;
 use std::io::{ErrorKind, Stderr, Stdin, Stdout};
 use std::process::ExitCode;
 
-/// Runs `execute`, the program with this name, on the words and the standard streams of its process. The words begin
-/// with the name by which it was called.
-pub fn run_program<F>(rt: HostRuntime, name: &str, execute: F) -> ExitCode
+/// Runs a program, as `execute` does, on the words and the standard streams of its process. The words begin with the name
+/// by which it was called.
+pub fn run_program<F>(rt: HostRuntime, program: Program, execute: F) -> ExitCode
 where
     F: FnOnce(Vec<String>, &mut FromRead<Stdin>, &mut ToWrite<Stdout>, &mut ToWrite<Stderr>) -> u8,
     requires { (words : _) (reader : _) (writer : _) (errors : _)
@@ -22,17 +23,17 @@ where
     let mut reader = FromRead::new(rt.stdin());
     let mut writer = ToWrite::new(rt.stdout());
     let mut errors = ToWrite::new(rt.stderr());
-    let status = match words_or_status(name, command_line(&rt), &mut errors) {
+    let status = match words_or_status(program, command_line(&rt), &mut errors) {
         Ok(words) => execute(words, &mut reader, &mut writer, &mut errors),
         Err(status) => status,
     };
     ExitCode::from(status)
 }
 
-/// Returns the words that were read for the program with this name. If they could not be read, it returns the exit
-/// status of that fault, and writes its line to `e`.
+/// The words that were read for a program. If they could not be read, the exit status of that fault, which is printed as a
+/// line on `e`.
 pub fn words_or_status<E: Sink>(
-    name: &str,
+    program: Program,
     words: io::Result<Vec<String>>,
     e: &mut E,
 ) -> Result<Vec<String>, u8>
@@ -42,7 +43,7 @@ pub fn words_or_status<E: Sink>(
 {
     match words {
         Ok(words) => Ok(words),
-        Err(error) => Err(refuse(name, WordsFault::of(&error), e)),
+        Err(error) => Err(refuse(program, WordsFault::of(&error), e)),
     }
 }
 

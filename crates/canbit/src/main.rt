@@ -6,12 +6,12 @@
 #![tactic(auto)]
 
 use can_program::run_program;
-use canbit_commands::{NAME, execute};
+use canbit_commands::{CANBIT, execute};
 use std::process::ExitCode;
 
 fn main(rt: HostRuntime) -> ExitCode {
     let alloc = rt.alloc();
-    run_program(rt, NAME, |words, reader, writer, errors| {
+    run_program(rt, CANBIT, |words, reader, writer, errors| {
         execute(alloc, words.as_slice(), reader, writer, errors)
     })
 }

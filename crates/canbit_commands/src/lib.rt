@@ -3,9 +3,9 @@
 //!
 //! | File | What it has | Defined in |
 //! |---|---|---|
-//! | `program.rt` | [`execute`], which does what the words ask for, and promises for each status what was read and written; [`NAME`] | `specs/Answers.antt` |
-//! | `fault.rt` | [`CanbitFault`], why a subcommand has not done all that was asked | `specs/Status.antt` |
-//! | `run.rt` | reads and runs a scenario, and writes its report | `specs/Answers.antt`, `specs/Ends.antt` |
+//! | `program.rt` | [`execute`], what the words ask for is done: for each status what was read and written; [`CANBIT`] | `specs/Answers.antt` |
+//! | `fault.rt` | [`CanbitFault`], why a subcommand did not do all that it was asked | `specs/Status.antt` |
+//! | `run.rt` | a scenario is read and run, and its report written | `specs/Answers.antt`, `specs/Ends.antt` |
 //!
 //! The crate `canbit_words` finds which subcommand the words of the command line name.
 #![tactic(auto)]
@@ -15,4 +15,4 @@ mod program;
 mod run;
 
 pub use fault::CanbitFault;
-pub use program::{NAME, execute};
+pub use program::{CANBIT, execute};

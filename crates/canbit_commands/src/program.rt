@@ -12,14 +12,17 @@ ghost use Rattle.canbit_words.specs.Words.{AsksFor, AsksForHelp, AsksForOne, IsM
 
 use crate::fault::CanbitFault;
 use crate::run::run;
-use can_program::{WordsFault, conclude, refuse, write_help};
+use can_program::{Program, WordsFault, conclude, refuse, write_help};
 use can_stream::{Sink, Source};
 use can_texts::{check_lines, decode_stream, encode_lines};
 use canbit_words::{Chosen, WordFault, chosen};
 use std::alloc::Global;
 
-/// The program's name, before the line of a fault.
-pub const NAME: &str = "canbit";
+/// The program, whose faults are printed as codes alone.
+pub const CANBIT: Program = Program {
+    name: "canbit",
+    explains: false,
+};
 
 /// Does what the words ask for, and returns the exit status. The first word is the program's name. The
 /// call reads the words first, then `r`. It writes the output or the help text to `w`, and the line of
@@ -84,10 +87,10 @@ pub fn execute<R: Source, W: Sink, E: Sink>(
     ensures no_fault_line { result ≡ 0 → e.new ≡ e.old }
 {
     match chosen(alloc, words) {
-        Ok(chosen) => conclude(NAME, answer(alloc, chosen, r, w), e),
-        Err(WordFault::Help(text)) => conclude(NAME, write_help(text.as_str(), w), e),
-        Err(WordFault::Usage) => refuse(NAME, WordsFault::Usage, e),
-        Err(WordFault::Memory) => refuse(NAME, WordsFault::Memory, e),
+        Ok(chosen) => conclude(CANBIT, answer(alloc, chosen, r, w), e),
+        Err(WordFault::Help(text)) => conclude(CANBIT, write_help(text.as_str(), w), e),
+        Err(WordFault::Usage) => refuse(CANBIT, WordsFault::Usage, e),
+        Err(WordFault::Memory) => refuse(CANBIT, WordsFault::Memory, e),
     }
 }
 

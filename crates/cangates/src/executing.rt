@@ -10,22 +10,25 @@ ghost use Rattle.cangates.specs.Words.{asked_by};
 use crate::file::file;
 use crate::help::{HELP, VERSION};
 use crate::words::{Asked, Form, read_words};
-use can_program::{WordsFault, conclude, refuse, write_help};
+use can_program::{Program, WordsFault, conclude, refuse, write_help};
 use can_stream::{Sink, TraceFault, write_all};
 use std::alloc::Global;
 
-/// The program's name, which begins the line of a fault.
-pub const NAME: &str = "cangates";
+/// The program, whose faults are printed with words.
+pub const CANGATES: Program = Program {
+    name: "cangates",
+    explains: true,
+};
 
 /// Executes the command line, and returns the exit status. The first word is the program's name. The file, the help
 /// text or the version is written to `w`, and the line of a fault to `e`.
 ///
 /// | Status | Line | Meaning |
 /// |---|---|---|
-/// | 0 | none | success |
-/// | 2 | `cangates: usage` | the words are refused |
-/// | 3 | `cangates: P4 write` | `w` failed |
-/// | 4 | `cangates: P5 memory` | an allocation failed |
+/// | 0 | none | all was done |
+/// | 2 | `cangates: usage: ..` | the words are refused |
+/// | 3 | `cangates: P4 write: standard output could not be written` | `w` failed |
+/// | 4 | `cangates: P5 memory: ..` | memory ran out |
 pub fn execute<W: Sink, E: Sink>(alloc: Global, words: &[String], w: &mut W, e: &mut E) -> u8
     requires { W.has_failed w.old ≡ false }
     ensures status { result < 5 }
@@ -52,10 +55,10 @@ pub fn execute<W: Sink, E: Sink>(alloc: Global, words: &[String], w: &mut W, e: 
     ensures no_fault_line { result ≡ 0 → e.new ≡ e.old }
 {
     match read_words(words) {
-        Some(Asked::File(form)) => conclude(NAME, write_file(alloc, form, w), e),
-        Some(Asked::Help) => conclude(NAME, write_help(HELP, w), e),
-        Some(Asked::Version) => conclude(NAME, write_help(VERSION, w), e),
-        None => refuse(NAME, WordsFault::Usage, e),
+        Some(Asked::File(form)) => conclude(CANGATES, write_file(alloc, form, w), e),
+        Some(Asked::Help) => conclude(CANGATES, write_help(HELP, w), e),
+        Some(Asked::Version) => conclude(CANGATES, write_help(VERSION, w), e),
+        None => refuse(CANGATES, WordsFault::Usage, e),
     }
 }
 

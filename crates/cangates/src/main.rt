@@ -19,12 +19,12 @@ mod names;
 mod words;
 
 use can_program::run_program;
-use executing::{NAME, execute};
+use executing::{CANGATES, execute};
 use std::process::ExitCode;
 
 fn main(rt: HostRuntime) -> ExitCode {
     let alloc = rt.alloc();
-    run_program(rt, NAME, |words, _reader, writer, errors| {
+    run_program(rt, CANGATES, |words, _reader, writer, errors| {
         execute(alloc, words.as_slice(), writer, errors)
     })
 }

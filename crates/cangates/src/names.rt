@@ -39,7 +39,7 @@ const INPUTS: &[Word<'static>] = &[
     Word {
         name: "reset",
         places: 1,
-        meaning: "the registers take an idle controller, or one that joins, whatever enable is",
+        meaning: "the registers become those of an idle controller, or of one that integrates, whatever enable is",
     },
     Word {
         name: "joins",
@@ -49,27 +49,27 @@ const INPUTS: &[Word<'static>] = &[
     Word {
         name: "enable",
         places: 1,
-        meaning: "a bit time passes; where it is 0 nothing changes",
+        meaning: "a bit time passes; if it is 0, nothing changes",
     },
     Word {
         name: "bus",
         places: 1,
-        meaning: "the level that is sampled, 1 is recessive",
+        meaning: "the sampled level, 1 is recessive",
     },
     Word {
         name: "hold",
         places: 1,
-        meaning: "with enable: own overload frames are asked for, before the bit time",
+        meaning: "with enable: requests own overload frames, before the bit time",
     },
     Word {
         name: "hold_wish",
         places: 2,
-        meaning: "how many, 0 to 2; 3 changes nothing",
+        meaning: "the number of them, 0 to 2; 3 changes nothing",
     },
     Word {
         name: "waits",
         places: 1,
-        meaning: "a frame waits",
+        meaning: "a frame is pending",
     },
     Word {
         name: "wait_extended",
@@ -94,7 +94,7 @@ const INPUTS: &[Word<'static>] = &[
     Word {
         name: "wait_data",
         places: 64,
-        meaning: "its data, byte k from place 8k on; bytes past its data length are not looked at",
+        meaning: "its data, byte k from place 8k on; bytes past its data length are ignored",
     },
 ];
 
@@ -102,17 +102,17 @@ const OUTPUTS: &[Word<'static>] = &[
     Word {
         name: "drive",
         places: 1,
-        meaning: "the level that is driven in this bit time, 1 is recessive",
+        meaning: "the level driven in this bit time, 1 is recessive",
     },
     Word {
         name: "told",
         places: 4,
-        meaning: "what is told: 0 nothing, 1 sent, 2 received, 3 lost, errors 4 bit 5 stuff 6 CRC 7 form 8 ACK, 9 overload, 10 off, 11 recovered",
+        meaning: "the event of the bit time: 0 none, 1 sent, 2 received, 3 lost, errors 4 bit 5 stuff 6 CRC 7 form 8 ACK, 9 overload, 10 off, 11 recovered",
     },
     Word {
         name: "frame_extended",
         places: 1,
-        meaning: "the frame that is sent or received: its identifier has 29 bits; at other times any",
+        meaning: "the frame that was sent or received: its identifier has 29 bits; at other times arbitrary",
     },
     Word {
         name: "frame_remote",
@@ -137,12 +137,12 @@ const OUTPUTS: &[Word<'static>] = &[
     Word {
         name: "tec",
         places: 9,
-        meaning: "the transmit error counter that is held",
+        meaning: "the transmit error counter in the registers",
     },
     Word {
         name: "rec",
         places: 8,
-        meaning: "the receive error counter that is held",
+        meaning: "the receive error counter in the registers",
     },
     Word {
         name: "passive",
@@ -165,7 +165,7 @@ const REGISTERS: &[Word<'static>] = &[
     Word {
         name: "phase",
         places: 4,
-        meaning: "0 idle, 1 joining, 2 stuffed part, 3 CRC delimiter, 4 ACK slot, 5 ACK delimiter, 6 end of frame, 7 error flag, 8 passive error flag, 9 overload flag, 10 behind a flag, 11 delimiter, 12 intermission, 13 suspend transmission, 14 bus off",
+        meaning: "0 idle, 1 joining, 2 stuffed part, 3 CRC delimiter, 4 ACK slot, 5 ACK delimiter, 6 end of frame, 7 error flag, 8 passive error flag, 9 overload flag, 10 after a flag, 11 delimiter, 12 intermission, 13 suspend transmission, 14 bus off",
     },
     Word {
         name: "place",
@@ -180,12 +180,12 @@ const REGISTERS: &[Word<'static>] = &[
     Word {
         name: "unacknowledged",
         places: 1,
-        meaning: "in a passive error flag, it is that of a sender without acknowledgement",
+        meaning: "in a passive error flag, it is that of a transmitter without acknowledgement",
     },
     Word {
         name: "first",
         places: 1,
-        meaning: "behind an error flag, the next level is the first one",
+        meaning: "after an error flag, the next level is the first one",
     },
     Word {
         name: "sender",
@@ -195,7 +195,7 @@ const REGISTERS: &[Word<'static>] = &[
     Word {
         name: "pending",
         places: 4,
-        meaning: "how many own overload frames are asked for",
+        meaning: "how many own overload frames are requested",
     },
     Word {
         name: "used",
@@ -215,36 +215,36 @@ const REGISTERS: &[Word<'static>] = &[
     Word {
         name: "occurrences",
         places: 7,
-        meaning: "off the bus, how many times eleven recessive levels in a row were seen",
+        meaning: "in bus off, how many times eleven recessive levels in a row were seen",
     },
     Word {
         name: "heard",
         places: 103,
-        meaning: "the unstuffed levels that were heard of a frame, start of frame first, 1 is recessive",
+        meaning: "the unstuffed levels received of a frame, start of frame first, 1 is recessive",
     },
     Word {
         name: "heard_count",
         places: 7,
-        meaning: "how many unstuffed levels were heard",
+        meaning: "how many unstuffed levels were received",
     },
     Word {
         name: "heard_last",
         places: 1,
-        meaning: "the last level that was heard, stuff bits too",
+        meaning: "the last level received, which may be a stuff bit",
     },
     Word {
         name: "heard_run",
         places: 4,
-        meaning: "how many levels in a row, up to the last one, equal it",
+        meaning: "how many levels in a row equal it, including itself",
     },
     Word {
         name: "heard_check",
         places: 15,
-        meaning: "the check sequence of the unstuffed levels, its first level first",
+        meaning: "the CRC sequence of the unstuffed levels, its first level first",
     },
     Word {
         name: "own",
         places: 103,
-        meaning: "the unstuffed levels of the sender's frame up to the end of its data, start of frame first",
+        meaning: "the unstuffed levels of the transmitter's frame to the end of its data, start of frame first",
     },
 ];

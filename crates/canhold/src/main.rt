@@ -5,12 +5,12 @@
 #![tactic(auto)]
 
 use can_program::run_program;
-use canhold_commands::{NAME, execute};
+use canhold_commands::{CANHOLD, execute};
 use std::process::ExitCode;
 
 fn main(rt: HostRuntime) -> ExitCode {
     let alloc = rt.alloc();
-    run_program(rt, NAME, |words, reader, writer, errors| {
+    run_program(rt, CANHOLD, |words, reader, writer, errors| {
         execute(alloc, words.as_slice(), reader, writer, errors)
     })
 }

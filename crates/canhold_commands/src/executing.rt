@@ -13,25 +13,28 @@ use crate::fault::CanholdFault;
 use crate::help::{HELP, VERSION};
 use crate::play::play_lines;
 use crate::words::{Asked, Chosen, Question, read_words};
-use can_program::{WordsFault, conclude, conclude_of, refuse, write_help};
+use can_program::{Program, WordsFault, conclude, conclude_of, refuse, write_help};
 use can_stream::{Sink, Source};
 use std::alloc::Global;
 
-/// The program's name, which begins the line of a fault.
-pub const NAME: &str = "canhold";
+/// The program, whose faults are printed with words.
+pub const CANHOLD: Program = Program {
+    name: "canhold",
+    explains: true,
+};
 
 /// Executes the command line, and returns the exit status. The first word is the program's name. The subcommand reads
 /// `r` and writes its output to `w`. The help text and the version are written to `w`, and the line of a fault to `e`.
 ///
 /// | Status | Line | Meaning |
 /// |---|---|---|
-/// | 0 | none | success; for `judge`, there are transcripts, and all pass |
-/// | 1 | `canhold: P2 case[3].tester[1] of start-first`, `canhold: P6 long` | the document or the input is refused |
-/// | 1 | `canhold: transcripts differ` | all are judged, and some transcript does not pass |
-/// | 2 | `canhold: usage` | the words are refused |
-/// | 3 | `canhold: P3 read`, `canhold: P4 write` | `r` or `w` failed |
-/// | 4 | `canhold: P5 memory` | an allocation failed |
-/// | 5 | `canhold: nothing judged` | the document has no transcript to judge |
+/// | 0 | none | all was done, and all that was judged passes; some was, where it was asked for |
+/// | 1 | `canhold: P2 case[3].tester[1] of start-first: must be a string of levels, such as '1*9 0101'`, `canhold: P6 long: ..` | the document or the input is refused |
+/// | 1 | `canhold: transcripts differ` | all was done, and some transcript does not pass |
+/// | 2 | `canhold: usage: ..` | the words are refused |
+/// | 3 | `canhold: P3 read: ..`, `canhold: P4 write: ..` | `r` or `w` failed |
+/// | 4 | `canhold: P5 memory: ..` | memory ran out |
+/// | 5 | `canhold: nothing judged: ..` | all was done, and there was no transcript to judge |
 pub fn execute<R: Source, W: Sink, E: Sink>(
     alloc: Global,
     words: &[String],
@@ -76,11 +79,11 @@ pub fn execute<R: Source, W: Sink, E: Sink>(
         Some(Asked::Run(chosen)) => {
             let mut of = String::new(alloc);
             let outcome = answer(alloc, chosen, r, w, &mut of);
-            conclude_of(NAME, outcome, of.as_str(), e)
+            conclude_of(CANHOLD, outcome, of.as_str(), e)
         }
-        Some(Asked::Help) => conclude(NAME, write_help(HELP, w), e),
-        Some(Asked::Version) => conclude(NAME, write_help(VERSION, w), e),
-        None => refuse(NAME, WordsFault::Usage, e),
+        Some(Asked::Help) => conclude(CANHOLD, write_help(HELP, w), e),
+        Some(Asked::Version) => conclude(CANHOLD, write_help(VERSION, w), e),
+        None => refuse(CANHOLD, WordsFault::Usage, e),
     }
 }
 

@@ -54,4 +54,13 @@ impl RunFault for CanholdFault {
             CanholdFault::Stream(fault) => fault.status(),
         }
     }
+
+    fn words(&self) -> &'static str {
+        match self {
+            CanholdFault::Field(wrong) => wrong.words(),
+            CanholdFault::TranscriptsDiffer => "",
+            CanholdFault::NothingJudged => "the document has no transcript",
+            CanholdFault::Stream(fault) => fault.words(),
+        }
+    }
 }

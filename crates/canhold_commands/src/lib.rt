@@ -48,7 +48,7 @@ mod verdict;
 mod words;
 
 pub use document::Document;
-pub use executing::{NAME, execute};
+pub use executing::{CANHOLD, execute};
 pub use expecting::expected;
 pub use fault::CanholdFault;
 pub use help::{HELP, VERSION};

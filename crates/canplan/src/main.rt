@@ -5,13 +5,13 @@
 //! `execute` to the process's words and standard streams is only tested.
 #![tactic(auto)]
 
-use can_plan_text::{NAME, execute};
+use can_plan_text::{CANPLAN, execute};
 use can_program::run_program;
 use std::process::ExitCode;
 
 fn main(rt: HostRuntime) -> ExitCode {
     let alloc = rt.alloc();
-    run_program(rt, NAME, |words, reader, writer, errors| {
+    run_program(rt, CANPLAN, |words, reader, writer, errors| {
         execute(alloc, words.as_slice(), reader, writer, errors)
     })
 }

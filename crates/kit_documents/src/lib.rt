@@ -33,12 +33,14 @@
 //! | `laws.rt` | [`one_case`], [`one_told`]: a table describes at most one case, or one transcript | `specs/Cases.antt`, `specs/Transcripts.antt` |
 //! | `fault.rt` | [`KitFault`]: why a document is refused | |
 //! | `field.rt` | [`KitField`]: the invalid field | |
+//! | `field_words.rt` | what each field must be, in words: [`KitField::words`] | |
 #![tactic(auto)]
 
 mod cases;
 mod elements;
 mod fault;
 mod field;
+mod field_words;
 mod laws;
 mod strings;
 mod tables;
