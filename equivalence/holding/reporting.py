@@ -146,7 +146,7 @@ def check_related(asking: Asking) -> None:
     """Raises Fault if the mapping is vacuous, or the injected mutations are not detected."""
     for query, why in (
         (asking.some, "no legal state of the circuit satisfies the register mapping"),
-        (asking.some_step, "vacuous: enable is never 1 in a state that satisfies the register mapping"),
+        (asking.some_step, "vacuous: enable is never 1 in a state that satisfies the mapping and its assumptions"),
         (asking.some_reset, "vacuous: reset is never 1 in a bit time that meets the assumptions given_.."),
     ):
         if asking.ask(query()).found is None:
@@ -166,6 +166,14 @@ def assumption(asking: Asking, part: str) -> str:
     return f"{part} of {' '.join(named)}" if named else part
 
 
+def show_assumptions(asking: Asking) -> list[str]:
+    """Shows the assumptions, if there are any, and returns their names."""
+    given = [name for name in asking.netlist.parts if name.startswith(GIVEN)]
+    if given:
+        show([f"assumed: {', '.join(assumption(asking, name) for name in given)}"])
+    return given
+
+
 def hold(asking: Asking, vcd: str | None) -> int:
     """Runs the queries reset, outputs and step, and returns the status."""
     check_related(asking)
@@ -180,9 +188,7 @@ def hold(asking: Asking, vcd: str | None) -> int:
             show([CHOICES])
         show([f"not proved: {MEANINGS[found[0].query]}"])
         return DIFFERS
-    given = [name for name in asking.netlist.parts if name.startswith(GIVEN)]
-    if given:
-        show([f"assumed: {', '.join(assumption(asking, name) for name in given)}"])
+    given = show_assumptions(asking)
     if missing := asking.netlist.left_out(OUTPUTS):
         show([f"not compared: {' '.join(missing)}"])
     show([f"{EQUAL} that meets {', '.join(given)}" if given else EQUAL])
@@ -207,5 +213,6 @@ def smoke(asking: Asking, count: int, vcd: str | None) -> int:
             write_waves(result.found, vcd)
             show([CHOICES])
             return DIFFERS
+    show_assumptions(asking)
     show([f"no difference in the first {count} bit times"])
     return 0
