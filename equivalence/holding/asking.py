@@ -4,7 +4,7 @@ from __future__ import annotations
 
 import time
 from collections.abc import Iterable, Iterator
-from dataclasses import dataclass
+from dataclasses import dataclass, replace
 
 from holding.faults import NOTHING_HELD, Fault
 from holding.gates import FALSE, TRUE, Gates, is_true
@@ -15,6 +15,7 @@ RESET = "reset"
 HOLDS, SAME, GIVEN = "holds_", "same_", "given_"
 FIRST = "bit time"
 OUTPUT = "drive"  # the one output that every mapping has to compare
+ENABLE = "gates.enable"
 
 
 @dataclass
@@ -146,7 +147,11 @@ class Asking:
         """Two bit times without reset, and that the first one's state is legal and satisfies the mapping."""
         now = self.bit_time(None, False, mutated)
         after = self.bit_time(now, False, mutated)
-        return [now, after], self.gates.all(now.word("gates.legal")[0], now.all(HOLDS), self.given(now, after))
+        return [now, after], self.gates.both(self.satisfied(now), self.given(after))
+
+    def satisfied(self, now: BitTime) -> int:
+        """Whether a state is legal and satisfies the mapping, and the assumptions of its bit time."""
+        return self.gates.all(now.word("gates.legal")[0], now.all(HOLDS), self.given(now))
 
     def reset(self) -> Query:
         """Base case: a state after a reset, from any state, that violates the mapping."""
@@ -156,7 +161,8 @@ class Asking:
 
     def outputs(self) -> Query:
         """A state that satisfies the mapping, and in which outputs differ."""
-        return Query("outputs", self.bit_times, self.assumed, SAME, at=0)
+        # without the assumptions of the bit time after: they may be on registers, and no state may follow
+        return Query("outputs", self.bit_times, self.satisfied(self.bit_times[0]), SAME, at=0)
 
     def step(self) -> Query:
         """Inductive step: a bit time that leads from a state that satisfies the mapping to one that violates it."""
@@ -170,6 +176,15 @@ class Asking:
     def some(self) -> Query:
         """Any legal state that satisfies the mapping."""
         return Query("some state", self.bit_times, self.assumed, None)
+
+    def some_step(self) -> Query:
+        """Such a state, in which `enable` is 1: otherwise the circuit never leaves its state after a reset."""
+        enable = self.bit_times[0].word(ENABLE)[0]
+        return Query("some step", self.bit_times, self.gates.both(self.assumed, enable), None)
+
+    def some_reset(self) -> Query:
+        """Any reset that meets the assumptions: a run begins with one."""
+        return replace(self.reset(), name="some reset", prefix=None)
 
     def first(self, count: int, mutated: bool) -> Iterator[Query]:
         """Bounded check: outputs that differ in one of the first bit times after a reset, one query for each."""

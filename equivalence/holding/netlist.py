@@ -171,11 +171,19 @@ class Netlist:
             self.drivers[pins["Q"][0]] = ("$_MUX_", [(sides[0], LATCHES[kind]), (sides[1], False), (sides[2], False)])
         elif kind == "$_DFF_P_":
             if pins["C"] != self.inputs.get(CLOCK):
-                raise Fault(f"{name}: a register has a clock other than the mapping's input {CLOCK}")
+                raise Fault(f"{self.called(name, pins)} has a clock other than the mapping's input {CLOCK}")
             (taken,) = self.keys(pins["D"])
             self.registers[pins["Q"][0]] = (taken, False)
+        elif kind == "$_DFF_N_":
+            raise Fault(f"{self.called(name, pins)} uses the falling edge of its clock, not the rising edge of {CLOCK}")
         else:
-            raise Fault(f"{name}: {kind} is neither a gate nor a register on the rising edge of {CLOCK}")
+            said = self.called(name, pins)
+            raise Fault(f"{said} is neither a gate nor a register on the rising edge of {CLOCK}: {kind}")
+
+    def called(self, cell: str, pins: dict[str, list[Key]]) -> str:
+        """The word that a cell drives, or its name in yosys."""
+        names = [name for name, keys in self.words.items() if set(pins.get("Q", ())) & set(keys)]
+        return f"register {min(names, key=lambda it: (it.count('.'), it))}" if names else cell
 
     def take_instance(self, pins: dict[str, list[Key]]) -> None:
         """Connects the circuit's ports."""

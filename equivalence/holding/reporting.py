@@ -39,6 +39,8 @@ MEANINGS = {
     "outputs": "outputs differ, or the register mapping is too weak",
     "step": "the design differs, or the register mapping isn't inductive",
 }
+EQUAL = "equal in every run"
+CHOICES = "choices: if the design differs, see docs/DECISIONS.md for what the standard leaves open"
 
 
 def rule(found: Counterexample, at: int) -> str:
@@ -85,10 +87,10 @@ def inputs(found: Counterexample, at: int) -> str:
     return ", ".join(shown)
 
 
-def valued(found: Counterexample, name: str) -> str:
-    """The value of a word in the bit time that fails, after that in the bit time before, if it differs."""
+def valued(found: Counterexample, name: str, now: int) -> str:
+    """The value of a word in the bit time `now`; if a part fails in the one after it, then its value there, too."""
     width = len(found.bit_times[0].netlist.words[name])
-    numbers = [found.number(at, name) for at in range(found.at + 1)][-2:]
+    numbers = [found.number(at, name) for at in range(now, found.at + 1)]
     shown = [f"{number:#x}" if width > 12 else str(number) for number in numbers]
     return f"{name} {' then '.join(dict.fromkeys(shown))}"
 
@@ -110,7 +112,7 @@ def report(found: Counterexample) -> list[str]:
         lines.append(f"  bus levels from reset: {''.join(levels)}")
     for part in found.fails[:MOST_PARTS]:
         named = found.bit_times[0].netlist.named_by(part)
-        lines.append(f"  {part} fails: {', '.join(valued(found, name) for name in named)}")
+        lines.append(f"  {part} fails: {', '.join(valued(found, name, now) for name in named)}")
     if found.fails[MOST_PARTS:]:
         lines.append(f"  and {len(found.fails) - MOST_PARTS} more parts fail")
     return lines
@@ -141,10 +143,14 @@ def detected(result: Result, where: str) -> list[str]:
 
 
 def check_related(asking: Asking) -> None:
-    """Raises Fault if no state satisfies the mapping, or the injected mutations are not detected."""
-    some = asking.ask(asking.some())
-    if some.found is None:
-        raise Fault("no legal state of the circuit satisfies the register mapping", NOTHING_HELD)
+    """Raises Fault if the mapping is vacuous, or the injected mutations are not detected."""
+    for query, why in (
+        (asking.some, "no legal state of the circuit satisfies the register mapping"),
+        (asking.some_step, "vacuous: enable is never 1 in a state that satisfies the mapping and its assumptions"),
+        (asking.some_reset, "vacuous: reset is never 1 in a bit time that meets the assumptions given_.."),
+    ):
+        if asking.ask(query()).found is None:
+            raise Fault(why, NOTHING_HELD)
     check = asking.ask(asking.self_check())
     if check.found is None:
         raise Fault(
@@ -160,6 +166,14 @@ def assumption(asking: Asking, part: str) -> str:
     return f"{part} of {' '.join(named)}" if named else part
 
 
+def show_assumptions(asking: Asking) -> list[str]:
+    """Shows the assumptions, if there are any, and returns their names."""
+    given = [name for name in asking.netlist.parts if name.startswith(GIVEN)]
+    if given:
+        show([f"assumed: {', '.join(assumption(asking, name) for name in given)}"])
+    return given
+
+
 def hold(asking: Asking, vcd: str | None) -> int:
     """Runs the queries reset, outputs and step, and returns the status."""
     check_related(asking)
@@ -170,14 +184,14 @@ def hold(asking: Asking, vcd: str | None) -> int:
     found = [result.found for result in results if result.found]
     if found:
         write_waves(found[0], vcd)
+        if found[0].query != "reset":
+            show([CHOICES])
         show([f"not proved: {MEANINGS[found[0].query]}"])
         return DIFFERS
-    given = [name for name in asking.netlist.parts if name.startswith(GIVEN)]
-    if given:
-        show([f"assumed: {', '.join(assumption(asking, name) for name in given)}"])
+    given = show_assumptions(asking)
     if missing := asking.netlist.left_out(OUTPUTS):
         show([f"not compared: {' '.join(missing)}"])
-    show(["equal in every run"])
+    show([f"{EQUAL} that meets {', '.join(given)}" if given else EQUAL])
     return 0
 
 
@@ -197,6 +211,8 @@ def smoke(asking: Asking, count: int, vcd: str | None) -> int:
         show(lines_of(result, "no difference"))
         if result.found:
             write_waves(result.found, vcd)
+            show([CHOICES])
             return DIFFERS
+    show_assumptions(asking)
     show([f"no difference in the first {count} bit times"])
     return 0

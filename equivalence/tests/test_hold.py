@@ -69,7 +69,8 @@ class Files(unittest.TestCase):
     def prints(self, ran: subprocess.CompletedProcess[str], status: int, text: str) -> None:
         self.assertEqual(ran.returncode, status, ran)
         self.assertIn(text, ran.stdout + ran.stderr)
-        self.assertEqual(ran.stdout.rstrip().endswith("equal in every run"), status == 0, ran)
+        last = (ran.stdout.splitlines() or [""])[-1]
+        self.assertEqual(last.startswith("equal in every run"), status == 0, ran)
 
 
 @unittest.skipUnless(has_tools(), "yosys or cadical is not installed")
@@ -79,6 +80,7 @@ class Relations(Files):
             ran = self.hold({**SAME, **STATE, **JOINS}, "--solver", solver)
             self.prints(ran, 0, "not compared: told frame_extended")
             self.assertIn("assumed: given_silence\n", ran.stdout)
+            self.assertEqual(ran.stdout.splitlines()[-1], "equal in every run that meets given_silence")
             self.assertRegex(ran.stdout, r"(?m)^self-check: injected mutation detected, \d+\.\d s \(holds_state\)$")
 
     def test_a_mapping_through_ports(self) -> None:
@@ -105,6 +107,28 @@ class Relations(Files):
         self.prints(ran, 1, "not proved: a state after a reset doesn't satisfy the register mapping")
         self.assertIn("holds_tec fails: gates.tec_count", ran.stdout)
 
+    def test_an_enable_that_is_never_1(self) -> None:
+        design = DESIGN.replace("output drive,", "output drive, output sample_point,")
+        design = design.replace("assign drive", "assign sample_point = {}; assign drive")
+        text = RELATION.replace(".enable(1'b1)", ".enable(dut.sample_point)")
+        named = {**SAME, **STATE, "holds_phase": JOINS["holds_phase"], "given_silence": "bus"}
+        parts = "".join(f"assign {name} = {value};" for name, value in named.items())
+        relation = self.put("relation.v", text.format(outputs=", ".join(f"output {it}" for it in named), parts=parts))
+        for point in ("1'b0", "state == 4'd6"):
+            ran = self.run_hold(relation, self.put("small.v", design.format(point)))
+            self.prints(ran, 5, "vacuous: enable is never 1")
+        ran = self.run_hold(relation, self.put("small.v", design.format("1'b1")))
+        self.prints(ran, 0, "equal in every run that meets given_silence")
+
+    def test_assumptions_that_no_run_meets(self) -> None:
+        self.prints(self.hold({**SAME, **STATE, "given_x": "!reset"}), 5, "vacuous: reset is never 1")
+
+    def test_an_assumption_on_what_follows(self) -> None:
+        # no bit time that meets given_x can follow one that violates same_x: that is a difference nevertheless
+        parts = {**SAME, **STATE, **JOINS, "same_x": "bus || gates.phase != 4'd0"}
+        del parts["given_silence"]
+        self.prints(self.hold({**parts, "given_x": "gates.phase <= 4'd1"}), 1, "outputs: counterexample")
+
     def test_a_mapping_that_is_too_weak(self) -> None:
         self.prints(self.hold({**SAME, "holds_phase": "gates.phase <= 4'd1"}), 5, "into the design and not detected")
         self.prints(self.hold(STATE), 5, "it has no output same_")
@@ -120,6 +144,7 @@ class Relations(Files):
         self.prints(ran, 1, "outputs: counterexample")
         self.assertRegex(ran.stdout, r"(?m)^  before: (active-flag|overload-flag|ack-slot) ?\d?, receiver; [A-Z][a-z]")
         self.assertIn("same_drive fails: dut.drive 1, gates.drive 0", ran.stdout)
+        self.assertIn("choices: if the design differs, see docs/DECISIONS.md", ran.stdout)
         waves = (self.room / "waves.vcd").read_text()
         self.assertRegex(waves, r"\$scope module gates \$end\n(\$var .*\n)*\$var wire 4 \w+ phase \$end")
         self.assertEqual(re.findall(r"(?m)^#(\d+)", waves), ["0", "5", "10", "15", "20"])
@@ -135,6 +160,9 @@ class Relations(Files):
         self.assertIn("bit time 2: no difference", ran.stdout)
         self.assertIn("bit time 3: counterexample", ran.stdout)
         self.assertIn("  bus levels from reset: 11", ran.stdout)
+        # values in the bit time whose state is shown, not in the one before
+        self.assertIn("  before: joining 2, ", ran.stdout)
+        self.assertRegex(ran.stdout, r"(?m)^  same_both fails: .*gates\.place 2$")
 
     def test_a_design_that_yosys_does_not_read(self) -> None:
         relation = self.put("relation.v", RELATION.format(outputs="output same_drive", parts=""))
@@ -147,7 +175,8 @@ class Relations(Files):
         self.prints(self.run_hold(relation, self.put("small.vhd", text)), 1, 'no declaration for "gone"')
 
     def test_a_register_of_another_clock(self) -> None:
-        for edge, said in (("negedge clock", "$_DFF_N_"), ("posedge reset", "a clock other than")):
+        falls, other = "dut.state uses the falling edge of its clock", "dut.state has a clock other than"
+        for edge, said in (("negedge clock", falls), ("posedge reset", other)):
             design = self.put("small.v", DESIGN.replace("posedge clock", edge))
             outputs = "output same_drive, output holds_state"
             parts = f"assign same_drive = {SAME['same_drive']}; assign holds_state = {STATE['holds_state']};"

@@ -1,4 +1,4 @@
-"""The sessions of README.md are those of `hold`, without times and without what the solver chooses."""
+"""The sessions of the pages are those of `hold`, without times and without what the solver chooses."""
 
 from __future__ import annotations
 
@@ -11,7 +11,8 @@ import unittest
 
 FOLDER = pathlib.Path(__file__).resolve().parent.parent
 TOP = FOLDER.parent
-PAGE = FOLDER / "README.md"
+# the pages with sessions of `hold`, and how many each has
+PAGES = {FOLDER / "README.md": 2, TOP / "bindings" / "vhdl" / "README.md": 1}
 sys.path.insert(0, str(FOLDER))
 
 from holding.tools import SOLVERS
@@ -33,9 +34,9 @@ def has_tools() -> bool:
     return shutil.which("yosys") is not None and any(map(shutil.which, SOLVERS.values()))
 
 
-def sessions() -> dict[str, list[str]]:
-    """The commands of the page's indented blocks that begin with `$ `, with the lines below each."""
-    blocks = re.findall(r"(?m)^ {4}\$ (.*)\n((?: {4}[^$\n].*\n)+)", PAGE.read_text())
+def sessions(page: pathlib.Path) -> dict[str, list[str]]:
+    """The commands of a page's indented blocks that begin with `$ `, with the lines below each."""
+    blocks = re.findall(r"(?m)^ {4}\$ (.*)\n((?: {4}[^$\n].*\n)+)", page.read_text())
     return {command: re.sub(r"(?m)^ {4}", "", lines).splitlines() for command, lines in blocks}
 
 
@@ -72,8 +73,10 @@ class Page(unittest.TestCase):
 
     @unittest.skipUnless(has_tools(), "yosys or a solver is not installed")
     def test_sessions(self) -> None:
-        self.assertEqual(len(sessions()), 2)
-        for command, shown in sessions().items():
+        self.assertEqual({page: len(sessions(page)) for page in PAGES}, PAGES)
+        for command, shown in (it for page in PAGES for it in sessions(page).items()):
+            if ".vhd" in command and not shutil.which("ghdl"):
+                continue
             with self.subTest(command):
                 ran = subprocess.run(["bash", "-c", command], cwd=TOP, capture_output=True, text=True, timeout=300)
                 printed = ran.stdout.splitlines()
