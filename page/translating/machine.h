@@ -26,9 +26,10 @@ typedef union {
 #define NOTHING ((vec){ .u64 = { 0, 0 } })
 
 /* Memory, at any alignment: the machine requires none. */
-#define PLACE(at) ((u8 *)(uintptr_t)(at)) define ADDRESS(place) ((u64)(uintptr_t)(place)) define LOAD(kind, at) ({ kind
-#load_; __builtin_memcpy(&load_, PLACE(at), sizeof(kind)); load_; }) define STORE(kind, at, value) do { kind store_ =
-#(value); __builtin_memcpy(PLACE(at), &store_, sizeof(kind)); } while (0)
+#define PLACE(at) ((u8 *)(uintptr_t)(at))
+#define ADDRESS(place) ((u64)(uintptr_t)(place))
+#define LOAD(kind, at) ({ kind load_; __builtin_memcpy(&load_, PLACE(at), sizeof(kind)); load_; })
+#define STORE(kind, at, value) do { kind store_ = (value); __builtin_memcpy(PLACE(at), &store_, sizeof(kind)); } while (0)
 
 /*
  * A function: parameters are passed in x0 to x7, and the place of a result that has none in registers in x8 (Procedure
@@ -73,8 +74,8 @@ static _Alignas(16) u8 stack[STACK_BYTES];
   u##bits a_ = (u##bits)(first), b_ = (u##bits)(second), r_ = (u##bits)(a_ - b_); \
   FLAGS_OF(bits, (a_ ^ b_) & (a_ ^ r_), a_ >= b_); \
 } while (0)
-#define FLAGS_OF_BITS(bits, value) do { u##bits r_ = (u##bits)(value); FLAGS_OF(bits, 0, 0); } while (0) define
-#FLAGS_ARE(nzcv) (flag_n = (nzcv) >> 3 & 1, flag_z = (nzcv) >> 2 & 1, flag_c = (nzcv) >> 1 & 1, flag_v = (nzcv) & 1)
+#define FLAGS_OF_BITS(bits, value) do { u##bits r_ = (u##bits)(value); FLAGS_OF(bits, 0, 0); } while (0)
+#define FLAGS_ARE(nzcv) (flag_n = (nzcv) >> 3 & 1, flag_z = (nzcv) >> 2 & 1, flag_c = (nzcv) >> 1 & 1, flag_v = (nzcv) & 1)
 #define CARRIED_SUM(bits, first, second) \
   u##bits a_ = (u##bits)(first), b_ = (u##bits)(second), r_ = (u##bits)(a_ + b_ + (u##bits)flag_c)
 #define FLAGS_OF_CARRIED_SUM(bits) FLAGS_OF(bits, (a_ ^ r_) & (b_ ^ r_), flag_c ? r_ <= a_ : r_ < a_)
