@@ -10,25 +10,24 @@ from holding.faults import FAILED, Fault
 
 TOP = pathlib.Path(__file__).resolve().parent.parent.parent
 PROGRAM = "cangates"
-RELEASED = TOP / "circuit" / f"{MODULE}.v"  # the verified circuit in a release
+WRITTEN = f"equivalence/{MODULE}.v"  # the verified circuit, as cangates wrote it; tests/cangates compares the two
 
 
 def circuit_of(path: str | None) -> tuple[Circuit, str]:
     """The circuit in a file, and what to print about it.
 
-    Without a file it is the verified circuit: the file of a release, or the output of cangates, if that is built.
-    Otherwise it is the peer, which is not in a release.
+    Without a file it is the verified circuit: the output of cangates, if that is built, otherwise the file here.
     """
-    if path is None and RELEASED.exists():
-        path = str(RELEASED)
     if path is not None:
-        return read_circuit(pathlib.Path(path).read_text(encoding="utf-8", errors="replace"), path), path
+        return in_file(path), path
     if (TOP / "out" / PROGRAM).exists():
         return read_circuit(output_of_program(), PROGRAM), f"./{PROGRAM} verilog"
-    from peer.controller import controller
-    from peer.verilog import written
+    return in_file(str(TOP / WRITTEN)), f"{WRITTEN}, as {PROGRAM} wrote it"
 
-    return read_circuit(written(controller(), MODULE, "the peer"), "peer"), "equivalence/peer, which is not verified"
+
+def in_file(path: str) -> Circuit:
+    """The circuit in a file."""
+    return read_circuit(pathlib.Path(path).read_text(encoding="utf-8", errors="replace"), path)
 
 
 def output_of_program() -> str:

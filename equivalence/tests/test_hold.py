@@ -16,6 +16,7 @@ COSIM = FOLDER.parent / "examples" / "cosim"
 sys.path.insert(0, str(FOLDER))
 
 from holding.circuit import MODULE, read_circuit
+from holding.defaults import circuit_of
 from holding.faults import Fault
 from holding.gates import Gates, is_true
 from holding.relation import read_relation
@@ -234,6 +235,14 @@ class Texts(unittest.TestCase):
             self.assertIn(old, self.text)
             with self.assertRaises(Fault, msg=new):
                 read_circuit(self.text.replace(old, new, 1), "circuit.v")
+
+
+class Defaults(unittest.TestCase):
+    @unittest.skipIf((FOLDER.parent / "out" / "cangates").exists(), "cangates is built")
+    def test_the_file_that_cangates_wrote(self) -> None:
+        circuit, source = circuit_of(None)
+        self.assertEqual(source, "equivalence/riddlesage_controller.v, as cangates wrote it")
+        self.assertEqual(circuit, circuit_of(str(FOLDER / "riddlesage_controller.v"))[0])
 
 
 class Solvers(unittest.TestCase):
