@@ -174,4 +174,4 @@ def test_standard_input(monkeypatch: pytest.MonkeyPatch, capsys: pytest.CaptureF
     """Standard input is read if no file is named."""
     monkeypatch.setattr(sys, "stdin", io.TextIOWrapper(io.BytesIO(b"123#\n?\n")))
     assert main(["texts"]) == 1
-    assert capsys.readouterr() == ("S 123 D 0\n", "standard input:2: this is no line of candump\n")
+    assert capsys.readouterr() == ("S 123 D 0\n", "standard input:2: this is not a line of candump\n")
