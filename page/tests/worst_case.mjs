@@ -74,7 +74,7 @@ export const worstCaseTests = [
   }],
   ['a message is shown if no scenario is long enough for a worst case', async ({ open }) => {
     const page = await networkShown(open, 'version = 1\n[[message]]\nframe = "S 000 D"\nperiod = 100\n[[message]]\nframe = "S 001 D"\nperiod = 5000000\n');
-    for (const frame of ['S 000 D 8', 'S 001 D 8']) assert.match(await askWorst(page, frame), /^No scenario is long enough: the bus is busy .* for more than 999,999 bit times, or for ever\.$/);
+    for (const frame of ['S 000 D 8', 'S 001 D 8']) assert.match(await askWorst(page, frame), /^No scenario is long enough: the bus is busy .* for more than 999,999 bit times, or forever\.$/);
     assert.deepEqual(await seen(page), ['panel-network']);
     await fillNetwork(page, 'network-text', THREE);
     assert.equal(await askWorst(page, 'S 100 D 7'), '');
