@@ -26,7 +26,7 @@ STYLE = (
 )
 # what an arrow ends with, in each of its colours
 HEAD = '<marker id="{name}" viewBox="0 0 8 8" refX="7" refY="4" markerWidth="8" markerHeight="8" orient="auto" '
-HEAD += 'markerUnits="userSpaceOnUse"><path d="M0 0L8 4L0 8z" fill="{colour}"/></marker>'
+HEAD += 'markerUnits="userSpaceOnUse"><path d="M 0 0 L 8 4 L 0 8 z" fill="{colour}"/></marker>'
 HATCH = '<pattern id="hatch" width="5" height="5" patternUnits="userSpaceOnUse">'
 HATCH += '<path d="M-1 1L1 -1M0 5L5 0M4 6L6 4" stroke="#3a434b" stroke-width="0.9"/></pattern>'
 Point = tuple[float, float]
