@@ -62,8 +62,8 @@ impl Counters {
 
 #[derive(Clone, Copy)]
 pub enum Phase {
-    Joining { row: u32 },
     Idle,
+    Joining { row: u32 },
     StuffedPart,
     CrcDelimiter,
     AckSlot,
@@ -375,10 +375,10 @@ impl Controller {
     #[inline]
     fn take_part(&mut self, waiting: Option<&Frame>, seen: Level) -> Option<Event> {
         match (self.phase, seen) {
+            (Phase::Idle, _) => return self.idle(waiting, seen),
             (Phase::Joining { .. }, Dominant) => self.phase = Phase::Joining { row: 0 },
             (Phase::Joining { row: 10 }, Recessive) => self.phase = Phase::Idle,
             (Phase::Joining { row }, Recessive) => self.phase = Phase::Joining { row: row + 1 },
-            (Phase::Idle, _) => return self.idle(waiting, seen),
             (Phase::StuffedPart, _) => return self.stuffed_part(seen),
             (Phase::CrcDelimiter, Dominant) => return self.error_of_form(),
             (Phase::CrcDelimiter, Recessive) => self.phase = Phase::AckSlot,

@@ -35,7 +35,7 @@ void *realloc(void *block, size_t size) {
     return is_refused() ? NULL : next(block, size);
 }
 
-__attribute__((destructor)) static void tell(void) {
+__attribute__((destructor)) static void report(void) {
     const char *name = getenv("COUNT");
     FILE *file = name == NULL ? NULL : fopen(name, "w");
     if (file != NULL) {

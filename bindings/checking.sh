@@ -15,14 +15,14 @@ failed=0
 check() {
     local name=$1 begun=$SECONDS
     shift
-    if "$@" > "$work/told" 2>&1; then
+    if "$@" > "$work/output" 2>&1; then
         passed=$((passed + 1))
         name=$name$([ $((SECONDS - begun)) -lt 2 ] || echo ", $((SECONDS - begun)) s")
         echo "passed: $name"
     else
         failed=$((failed + 1))
         echo "failed: $name"
-        tail -n 40 "$work/told"
+        tail -n 40 "$work/output"
     fi
 }
 

@@ -299,9 +299,9 @@ EXPORT const char *riddlesage_event_name(riddlesage_event event)
 EXPORT const char *riddlesage_phase_name(riddlesage_phase phase)
 {
   static const char *const names[] = {
-    "joining",      "idle",          "stuffed",     "crc-delimiter", "ack-slot",
-    "ack-delimiter", "end-of-frame", "active-flag", "passive-flag",  "overload-flag",
-    "behind-flag",  "delimiter",     "intermission", "suspend",      "bus-off",
+    "idle",          "joining",      "stuffed-part", "crc-delimiter", "ack-slot",
+    "ack-delimiter", "end-of-frame", "error-flag",   "passive-flag",  "overload-flag",
+    "after-flag",    "delimiter",    "intermission", "suspend",       "bus-off",
   };
   return (size_t)phase < sizeof names / sizeof names[0] ? names[phase] : NULL;
 }
@@ -320,7 +320,7 @@ EXPORT const char *riddlesage_rule_name(riddlesage_rule rule)
     [RIDDLESAGE_RULE_FIXED_FORM] = "Fixed form",
     [RIDDLESAGE_RULE_ACKNOWLEDGEMENT] = "Acknowledgement",
     [RIDDLESAGE_RULE_ERROR_FLAGS] = "Error flags",
-    [RIDDLESAGE_RULE_BEHIND_A_FLAG] = "Behind a flag",
+    [RIDDLESAGE_RULE_AFTER_A_FLAG] = "After a flag",
     [RIDDLESAGE_RULE_DELIMITER] = "Delimiter",
     [RIDDLESAGE_RULE_OVERLOAD_FLAGS] = "Overload flags",
   };

@@ -123,17 +123,17 @@ typedef enum riddlesage_state {
  * is the progress within the phase, as each says.
  */
 typedef enum riddlesage_phase {
-  RIDDLESAGE_PHASE_JOINING = 0,       /**< bus integration: `place` recessive levels in a row so far, 0 to 10 */
-  RIDDLESAGE_PHASE_IDLE = 1,          /**< between frames, and free to send */
-  RIDDLESAGE_PHASE_STUFFED = 2,       /**< start of frame to CRC sequence: `place` bits without stuff bits, 1 to 118 */
+  RIDDLESAGE_PHASE_IDLE = 0,          /**< between frames, and free to send */
+  RIDDLESAGE_PHASE_JOINING = 1,       /**< bus integration: `place` recessive levels in a row so far, 0 to 10 */
+  RIDDLESAGE_PHASE_STUFFED_PART = 2,  /**< start of frame to CRC sequence: `place` bits without stuff bits, 1 to 118 */
   RIDDLESAGE_PHASE_CRC_DELIMITER = 3, /**< the next bit is the CRC delimiter */
   RIDDLESAGE_PHASE_ACK_SLOT = 4,      /**< the next bit is the ACK slot */
   RIDDLESAGE_PHASE_ACK_DELIMITER = 5, /**< the next bit is the ACK delimiter */
   RIDDLESAGE_PHASE_END_OF_FRAME = 6,  /**< `place` of its seven bits have passed, 0 to 6 */
-  RIDDLESAGE_PHASE_ACTIVE_FLAG = 7,   /**< active error flag: `place` of its six bits have passed, 0 to 5 */
+  RIDDLESAGE_PHASE_ERROR_FLAG = 7,    /**< active error flag: `place` of its six bits have passed, 0 to 5 */
   RIDDLESAGE_PHASE_PASSIVE_FLAG = 8,  /**< passive error flag: the last `place` levels were equal, 0 to 5 */
   RIDDLESAGE_PHASE_OVERLOAD_FLAG = 9, /**< `place` of its six bits have passed, 0 to 5 */
-  RIDDLESAGE_PHASE_BEHIND_FLAG = 10,  /**< after a flag, until a recessive level: `place` dominant levels, modulo 8 */
+  RIDDLESAGE_PHASE_AFTER_FLAG = 10,   /**< after a flag, until a recessive level: `place` dominant levels, modulo 8 */
   RIDDLESAGE_PHASE_DELIMITER = 11,    /**< error or overload delimiter: `place` of its eight bits, 1 to 7 */
   RIDDLESAGE_PHASE_INTERMISSION = 12, /**< `place` of its three bits have passed, 0 to 2 */
   RIDDLESAGE_PHASE_SUSPEND = 13,      /**< suspend transmission: `place` of its eight bits, 0 to 7 */
@@ -153,7 +153,7 @@ typedef enum riddlesage_rule {
   RIDDLESAGE_RULE_FIXED_FORM = 8,
   RIDDLESAGE_RULE_ACKNOWLEDGEMENT = 9,
   RIDDLESAGE_RULE_ERROR_FLAGS = 12,
-  RIDDLESAGE_RULE_BEHIND_A_FLAG = 14,
+  RIDDLESAGE_RULE_AFTER_A_FLAG = 14,
   RIDDLESAGE_RULE_DELIMITER = 15,
   RIDDLESAGE_RULE_OVERLOAD_FLAGS = 16
 } riddlesage_rule;

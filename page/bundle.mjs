@@ -48,9 +48,9 @@ function scriptOf(folder, name) {
  * @param {string} parts each after a comment with its name, its parameters and its purpose
  */
 function withParts(page, parts) {
-  const [, ...told] = parts.split(PART);
+  const [, ...found] = parts.split(PART);
   const known = new Map();
-  for (let at = 0; at < told.length; at += 3) known.set(told[at], { parameters: told[at + 1].split(' '), text: told[at + 2].trimEnd() });
+  for (let at = 0; at < found.length; at += 3) known.set(found[at], { parameters: found[at + 1].split(' '), text: found[at + 2].trimEnd() });
   return page.replace(USE, (_, indentation, name, words = '') => {
     const part = known.get(name);
     const values = words.split('|').map((word) => word.trim());

@@ -8,8 +8,8 @@
 #include <utility>
 #include <vector>
 
-using riddlesage::Event, riddlesage::Hit, riddlesage::Level, riddlesage::Offer, riddlesage::Port, riddlesage::Status,
-    riddlesage::Told;
+using riddlesage::Event, riddlesage::Hit, riddlesage::Level, riddlesage::Offer, riddlesage::Port, riddlesage::Reported,
+    riddlesage::Status;
 
 int main()
 {
@@ -25,8 +25,8 @@ int main()
   for (int time = 0; time < 80; time++) {
     const Level bus = ports[0].drive() & ports[1].drive(); // dominant at first: a start of frame
     ports[0].sample(bus);
-    if (const Told told = ports[1].sample(bus); told.event == Event::received)
-      std::puts(riddlesage::text(*told.frame).c_str()); // S 123 D 2 aa55
+    if (const Reported reported = ports[1].sample(bus); reported.event == Event::received)
+      std::puts(riddlesage::text(*reported.frame).c_str()); // S 123 D 2 aa55
   }
 
   const std::array offers{Offer{.time = 5, .port = 1, .frame = {.identifier = 0x124}}};

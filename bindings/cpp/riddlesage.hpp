@@ -94,17 +94,17 @@ enum class State : std::uint8_t {
 
 /// The phase of a port before a bit time.
 enum class Phase : std::uint8_t {
-  joining = RIDDLESAGE_PHASE_JOINING,
   idle = RIDDLESAGE_PHASE_IDLE,
-  stuffed = RIDDLESAGE_PHASE_STUFFED,
+  joining = RIDDLESAGE_PHASE_JOINING,
+  stuffed_part = RIDDLESAGE_PHASE_STUFFED_PART,
   crc_delimiter = RIDDLESAGE_PHASE_CRC_DELIMITER,
   ack_slot = RIDDLESAGE_PHASE_ACK_SLOT,
   ack_delimiter = RIDDLESAGE_PHASE_ACK_DELIMITER,
   end_of_frame = RIDDLESAGE_PHASE_END_OF_FRAME,
-  active_flag = RIDDLESAGE_PHASE_ACTIVE_FLAG,
+  error_flag = RIDDLESAGE_PHASE_ERROR_FLAG,
   passive_flag = RIDDLESAGE_PHASE_PASSIVE_FLAG,
   overload_flag = RIDDLESAGE_PHASE_OVERLOAD_FLAG,
-  behind_flag = RIDDLESAGE_PHASE_BEHIND_FLAG,
+  after_flag = RIDDLESAGE_PHASE_AFTER_FLAG,
   delimiter = RIDDLESAGE_PHASE_DELIMITER,
   intermission = RIDDLESAGE_PHASE_INTERMISSION,
   suspend = RIDDLESAGE_PHASE_SUSPEND,
@@ -124,7 +124,7 @@ enum class Rule : std::uint8_t {
   fixed_form = RIDDLESAGE_RULE_FIXED_FORM,
   acknowledgement = RIDDLESAGE_RULE_ACKNOWLEDGEMENT,
   error_flags = RIDDLESAGE_RULE_ERROR_FLAGS,
-  behind_a_flag = RIDDLESAGE_RULE_BEHIND_A_FLAG,
+  after_a_flag = RIDDLESAGE_RULE_AFTER_A_FLAG,
   delimiter = RIDDLESAGE_RULE_DELIMITER,
   overload_flags = RIDDLESAGE_RULE_OVERLOAD_FLAGS
 };
@@ -186,7 +186,7 @@ struct Frame {
 };
 
 /// The event of a bit time, and the frame if one was sent or received.
-struct Told {
+struct Reported {
   Event event = Event::nothing;
   std::optional<Frame> frame;
 
@@ -354,15 +354,15 @@ public:
   [[nodiscard]] Level drive() const noexcept { return static_cast<Level>(number_of(riddlesage_port_drive)); }
 
   /// Passes one bit time: samples the level of the bus, and returns the event.
-  Told sample(Level bus) noexcept
+  Reported sample(Level bus) noexcept
   {
     std::uint8_t event = 0;
     riddlesage_frame frame{};
     detail::demand(riddlesage_port_sample(at_.get(), static_cast<std::uint8_t>(bus), &event, &frame));
-    Told told{static_cast<Event>(event), std::nullopt};
-    if (told.event == Event::sent || told.event == Event::received)
-      told.frame = detail::frame_of(frame);
-    return told;
+    Reported reported{static_cast<Event>(event), std::nullopt};
+    if (reported.event == Event::sent || reported.event == Event::received)
+      reported.frame = detail::frame_of(frame);
+    return reported;
   }
 
   /// Samples these levels, one per bit time, whatever the port drives; writes what it drove in each bit time, and the
@@ -431,10 +431,10 @@ private:
 
   /// The number that this call of the library returns for the port.
   template <typename Number>
-  [[nodiscard]] Number number_of(riddlesage_status (*tell)(riddlesage_port *, Number *)) const noexcept
+  [[nodiscard]] Number number_of(riddlesage_status (*call)(riddlesage_port *, Number *)) const noexcept
   {
     Number number = 0;
-    detail::demand(tell(at_.get(), &number));
+    detail::demand(call(at_.get(), &number));
     return number;
   }
 

@@ -72,7 +72,7 @@ void standings()
   Port port = made(1, 0);
   want(port.phase() == Standing{}, "a port that is idle");
   want(port.offer(some) == Status::ok && !port.sample(Level::dominant), "a start of frame");
-  want(port.phase() == Standing{Phase::stuffed, 1, true, Rule::arbitration}, "a sender");
+  want(port.phase() == Standing{Phase::stuffed_part, 1, true, Rule::arbitration}, "a sender");
   auto copy = port.copy();
   want(copy && copy->phase() == port.phase() && copy->offer(some) == Status::queue_full, "a copy of it");
 }
@@ -169,8 +169,9 @@ void moves()
     for (const Port &port : ports)
       bus &= port.drive();
     for (std::size_t place = 0; place < ports.size(); place++)
-      if (const Told told = ports[place].sample(bus))
-        want(told.event == (place == 3 ? Event::sent : Event::received) && told.frame == some, "one frame for all");
+      if (const Reported reported = ports[place].sample(bus))
+        want(reported.event == (place == 3 ? Event::sent : Event::received) && reported.frame == some,
+             "one frame for all");
   }
   for (std::size_t place = 0; place < ports.size(); place++)
     want(ports[place].log_length() == 1 && ports[place].entry(0)->sent == (place == 3), "a log of one entry");

@@ -6,8 +6,8 @@ from riddlesage import Bus, Fault, Frame, Port, decode, decode_trace, encode, pl
 
 port = Port()
 port.offer(Frame(0x123, b"\xaa\x55"))
-told = port.sample(port.drive())  # the event of this bit time, or None
-print(port.phase)  # stuffed 1, sender; Arbitration
+event = port.sample(port.drive())  # the event of this bit time, or None
+print(port.phase)  # stuffed-part 1, sender; Arbitration
 run = port.run(bytes(100))  # many bit times in one call: the level driven and the event in each
 print(decode_trace("111 000000"))  # ['3 fault C3 at 8']
 try:

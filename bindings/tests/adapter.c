@@ -12,13 +12,13 @@ static const char *const event_words[] = {
   [RIDDLESAGE_SENT] = "sent",
   [RIDDLESAGE_RECEIVED] = "received",
   [RIDDLESAGE_LOST] = "lost",
-  [RIDDLESAGE_BIT_ERROR] = "error bit",
-  [RIDDLESAGE_STUFF_ERROR] = "error stuff",
-  [RIDDLESAGE_CRC_ERROR] = "error crc",
-  [RIDDLESAGE_FORM_ERROR] = "error form",
-  [RIDDLESAGE_ACK_ERROR] = "error ack",
+  [RIDDLESAGE_BIT_ERROR] = "bit error",
+  [RIDDLESAGE_STUFF_ERROR] = "stuff error",
+  [RIDDLESAGE_CRC_ERROR] = "crc error",
+  [RIDDLESAGE_FORM_ERROR] = "form error",
+  [RIDDLESAGE_ACK_ERROR] = "ack error",
   [RIDDLESAGE_OVERLOAD] = "overload",
-  [RIDDLESAGE_WENT_OFF] = "off",
+  [RIDDLESAGE_WENT_OFF] = "went off",
   [RIDDLESAGE_RECOVERED] = "recovered",
 };
 
@@ -64,9 +64,9 @@ static void play(riddlesage_port *port, const char *levels)
 static void begin_case(riddlesage_port *port, const char *line)
 {
   const char *start = strrchr(line, ' ');
-  bool joins = start != NULL && strcmp(start, " joining") == 0;
+  bool joining = start != NULL && strcmp(start, " joining") == 0;
 
-  demand((joins ? riddlesage_port_joining : riddlesage_port_idle)(port, QUEUE_ROOM, LOG_ROOM));
+  demand((joining ? riddlesage_port_joining : riddlesage_port_idle)(port, QUEUE_ROOM, LOG_ROOM));
   puts("ready");
 }
 

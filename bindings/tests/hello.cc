@@ -7,7 +7,7 @@
 int main()
 {
   riddlesage_port port = RIDDLESAGE_PORT_INIT;
-  riddlesage_frame frame = { 0x123, 0, 0, 2, { 0xaa, 0x55 } }, told = {};
+  riddlesage_frame frame = { 0x123, 0, 0, 2, { 0xaa, 0x55 } }, reported = {};
   std::uint8_t level = 9, event = 9;
   bool sent = false;
 
@@ -16,7 +16,7 @@ int main()
   for (int time = 0; time < 100 && !sent; time++) {
     if (riddlesage_port_drive(&port, &level) != RIDDLESAGE_OK)
       return 1;
-    if (riddlesage_port_sample(&port, level, &event, &told) != RIDDLESAGE_OK)
+    if (riddlesage_port_sample(&port, level, &event, &reported) != RIDDLESAGE_OK)
       return 1;
     sent = event == RIDDLESAGE_ACK_ERROR;
   }

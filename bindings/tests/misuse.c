@@ -7,7 +7,7 @@
 #include "misuse.h"
 
 /* The outputs of calls that succeed. */
-static riddlesage_frame frame, told;
+static riddlesage_frame frame, reported;
 static riddlesage_heard heard;
 static riddlesage_standing standing;
 static uint8_t level, event, state, sent, levels[RIDDLESAGE_MOST_LEVELS], drives[RIDDLESAGE_MOST_LEVELS],
@@ -23,7 +23,7 @@ static void call_all(riddlesage_port *port, riddlesage_status wanted)
   want(wanted, riddlesage_port_offer(port, &frame), "offer", __LINE__);
   want(wanted, riddlesage_port_hold(port, 1), "hold", __LINE__);
   want(wanted, riddlesage_port_drive(port, &level), "drive", __LINE__);
-  want(wanted, riddlesage_port_sample(port, 1, &event, &told), "sample", __LINE__);
+  want(wanted, riddlesage_port_sample(port, 1, &event, &reported), "sample", __LINE__);
   want(wanted, riddlesage_port_sample(port, 1, &event, NULL), "sample", __LINE__);
   want(wanted, riddlesage_port_run(port, levels, 3, drives, events), "run", __LINE__);
   want(wanted, riddlesage_port_counters(port, &transmit, &receive), "counters", __LINE__);
@@ -32,7 +32,7 @@ static void call_all(riddlesage_port *port, riddlesage_status wanted)
   want(wanted, riddlesage_port_log_length(port, &count), "log_length", __LINE__);
   want(wanted, riddlesage_port_missed(port, &missed), "missed", __LINE__);
   if (wanted != RIDDLESAGE_OK)
-    want(wanted, riddlesage_port_entry(port, 0, &told, &sent), "entry", __LINE__);
+    want(wanted, riddlesage_port_entry(port, 0, &reported, &sent), "entry", __LINE__);
 }
 
 static void null_pointers(riddlesage_port *port)
@@ -44,7 +44,7 @@ static void null_pointers(riddlesage_port *port)
   WANT(NULL_POINTER, riddlesage_port_free(NULL));
   WANT(NULL_POINTER, riddlesage_port_offer(port, NULL));
   WANT(NULL_POINTER, riddlesage_port_drive(port, NULL));
-  WANT(NULL_POINTER, riddlesage_port_sample(port, 1, NULL, &told));
+  WANT(NULL_POINTER, riddlesage_port_sample(port, 1, NULL, &reported));
   WANT(NULL_POINTER, riddlesage_port_run(port, NULL, 3, drives, events));
   WANT(NULL_POINTER, riddlesage_port_run(port, levels, 3, NULL, events));
   WANT(NULL_POINTER, riddlesage_port_run(port, levels, 3, drives, NULL));
@@ -55,7 +55,7 @@ static void null_pointers(riddlesage_port *port)
   WANT(NULL_POINTER, riddlesage_port_log_length(port, NULL));
   WANT(NULL_POINTER, riddlesage_port_missed(port, NULL));
   WANT(NULL_POINTER, riddlesage_port_entry(port, 0, NULL, &sent));
-  WANT(NULL_POINTER, riddlesage_port_entry(port, 0, &told, NULL));
+  WANT(NULL_POINTER, riddlesage_port_entry(port, 0, &reported, NULL));
   WANT(NULL_POINTER, riddlesage_encode(NULL, levels, sizeof levels, &count));
   WANT(NULL_POINTER, riddlesage_encode(&frame, NULL, sizeof levels, &count));
   WANT(NULL_POINTER, riddlesage_encode(&frame, NULL, 0, &count));
@@ -112,7 +112,7 @@ static void bad_numbers(riddlesage_port *port)
 
   for (code = 2; code < 256; code++) {
     event = 77;
-    want(RIDDLESAGE_BAD_LEVEL, riddlesage_port_sample(port, (uint8_t)code, &event, &told), "sample", (int)code);
+    want(RIDDLESAGE_BAD_LEVEL, riddlesage_port_sample(port, (uint8_t)code, &event, &reported), "sample", (int)code);
     want(event == 77 ? RIDDLESAGE_OK : RIDDLESAGE_BAD_LEVEL, RIDDLESAGE_OK, "event is written", (int)code);
   }
   for (code = 3; code < 256; code++)
@@ -124,8 +124,8 @@ static void bad_numbers(riddlesage_port *port)
   place = 99;
   WANT(SHORT, riddlesage_decode(three, 0, &heard, &place));
   want(place == 0 ? RIDDLESAGE_OK : RIDDLESAGE_SHORT, RIDDLESAGE_OK, "the place of nothing", __LINE__);
-  WANT(NO_ENTRY, riddlesage_port_entry(port, 0, &told, &sent));
-  WANT(NO_ENTRY, riddlesage_port_entry(port, SIZE_MAX, &told, &sent));
+  WANT(NO_ENTRY, riddlesage_port_entry(port, 0, &reported, &sent));
+  WANT(NO_ENTRY, riddlesage_port_entry(port, SIZE_MAX, &reported, &sent));
   WANT(NO_ROOM, riddlesage_encode(&frame, levels, 0, &count));
   WANT(NO_ROOM, riddlesage_encode(&frame, levels, 49, &count));
   WANT(OK, riddlesage_encode(&frame, levels, 50, &count));
@@ -148,18 +148,18 @@ static void exact_lists(riddlesage_port *port)
   size_t size;
 
   for (size = 1; size <= RIDDLESAGE_MOST_LEVELS + 3; size++) {
-    uint8_t *in = block(size), *out = block(size), *told_here = block(size);
+    uint8_t *in = block(size), *out = block(size), *events_here = block(size);
     riddlesage_frame longest = { 0x1fffffff, 1, 0, 15, { 0, 0, 0, 0, 0, 0, 0, 0 } };
     riddlesage_status status = riddlesage_encode(&longest, out, size, &count);
     want(status == RIDDLESAGE_OK && count <= size ? RIDDLESAGE_OK : RIDDLESAGE_NO_ROOM, status, "encode", (int)size);
-    WANT(OK, riddlesage_port_run(port, in, size, out, told_here));
+    WANT(OK, riddlesage_port_run(port, in, size, out, events_here));
     WANT(NO_START, riddlesage_decode(in, size, &heard, &place));
     memset(in, 0, size);
     want(size < 6 ? RIDDLESAGE_SHORT : RIDDLESAGE_STUFF, riddlesage_decode(in, size, &heard, &place), "decode",
          (int)size);
     free(in);
     free(out);
-    free(told_here);
+    free(events_here);
   }
 }
 
@@ -257,7 +257,7 @@ static void without_room(riddlesage_port *port)
 {
   WANT(OK, riddlesage_port_idle(port, 0, 0));
   WANT(QUEUE_FULL, riddlesage_port_offer(port, &frame));
-  WANT(NO_ENTRY, riddlesage_port_entry(port, 0, &told, &sent));
+  WANT(NO_ENTRY, riddlesage_port_entry(port, 0, &reported, &sent));
   WANT(OK, riddlesage_port_free(port));
 }
 
@@ -382,7 +382,7 @@ int main(void)
 {
   riddlesage_port port = RIDDLESAGE_PORT_INIT;
   riddlesage_heard nothing_heard = heard;
-  riddlesage_frame nothing_told = told;
+  riddlesage_frame nothing_reported = reported;
 
   memset(levels, 1, sizeof levels);
   handles();
@@ -392,7 +392,7 @@ int main(void)
   bad_frames(&port);
   bad_numbers(&port);
   WANT_SAME(nothing_heard, heard);
-  WANT_SAME(nothing_told, told);
+  WANT_SAME(nothing_reported, reported);
   exact_lists(&port);
   behind_the_longest();
   bad_scenarios();

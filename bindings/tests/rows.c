@@ -16,7 +16,7 @@ enum { LINE_ROOM = 512, MOST_TIMES = 1024 };
 struct row {
   riddlesage_port port;
   bool in_one_call;
-  unsigned times, told;
+  unsigned times, compared;
   uint8_t drives[MOST_TIMES], events[MOST_TIMES];
   riddlesage_frame frames[MOST_TIMES];
 };
@@ -39,8 +39,8 @@ static size_t levels_of(const char *text, uint8_t *levels)
 
 static void skip_quiet_times(struct row *row)
 {
-  while (row->told < row->times && row->events[row->told] == RIDDLESAGE_NOTHING)
-    row->told++;
+  while (row->compared < row->times && row->events[row->compared] == RIDDLESAGE_NOTHING)
+    row->compared++;
 }
 
 /* The frames of a run are the entries that it added to the log. */
@@ -71,7 +71,7 @@ static bool see(struct row *row, const char *text)
   size_t count = levels_of(text, levels), entries = 0, place;
 
   skip_quiet_times(row);
-  if (text[count] != '\0' || row->told != row->times || row->times + count > MOST_TIMES)
+  if (text[count] != '\0' || row->compared != row->times || row->times + count > MOST_TIMES)
     return false;
   row->times += (unsigned)count;
   if (row->in_one_call) {
@@ -92,8 +92,8 @@ static bool see(struct row *row, const char *text)
   return true;
 }
 
-/* `told 45 received S 001 D 0`. In one call the frame is known only if the log had capacity for it. */
-static bool told(struct row *row, const char *text)
+/* `event 45 received S 001 D 0`. In one call the frame is known only if the log had capacity for it. */
+static bool reported(struct row *row, const char *text)
 {
   char frame[FRAME_TEXT_ROOM], wanted[LINE_ROOM];
   uint8_t event;
@@ -101,16 +101,16 @@ static bool told(struct row *row, const char *text)
   size_t entries = 0;
 
   skip_quiet_times(row);
-  if (row->told == row->times)
+  if (row->compared == row->times)
     return false;
-  event = row->events[row->told];
-  length = sprintf(wanted, "%u %s", row->told, riddlesage_event_name((riddlesage_event)event));
+  event = row->events[row->compared];
+  length = sprintf(wanted, "%u %s", row->compared, riddlesage_event_name((riddlesage_event)event));
   riddlesage_port_log_length(&row->port, &entries);
   if (event == RIDDLESAGE_SENT || event == RIDDLESAGE_RECEIVED) {
-    frame_to_text(&row->frames[row->told], frame);
+    frame_to_text(&row->frames[row->compared], frame);
     sprintf(wanted + length, " %s", frame);
   }
-  row->told++;
+  row->compared++;
   return text_is(text, wanted) || (row->in_one_call && strncmp(text, wanted, (size_t)length) == 0);
 }
 
@@ -150,7 +150,7 @@ static bool state(struct row *row, const char *text)
   return riddlesage_port_state(&row->port, &code) == RIDDLESAGE_OK && text_is(text, states[code]);
 }
 
-/* `stands active-flag 3, receiver; Error flags`: in the words of a verdict of canhold */
+/* `stands error-flag 3, receiver; Error flags`: in the words of a verdict of canhold */
 static bool stands(struct row *row, const char *text)
 {
   char wanted[LINE_ROOM], place[8] = "";
@@ -242,7 +242,7 @@ static riddlesage_status hand_in(struct row *row, const char *text)
     return frame_from_text(text + 6, &frame) ? riddlesage_port_offer(&row->port, &frame) : RIDDLESAGE_NULL_POINTER;
   if (strncmp(text, "hold ", 5) == 0)
     return riddlesage_port_hold(&row->port, (uint8_t)atoi(text + 5));
-  row->times = row->told = 0;
+  row->times = row->compared = 0;
   queue = strtoul(strchr(text, ' '), &end, 10);
   log = strtoul(end, NULL, 10);
   return (text[0] == 'i' ? riddlesage_port_idle : riddlesage_port_joining)(&row->port, queue, log);
@@ -268,8 +268,8 @@ static bool holds(struct row *row, const char *line)
     const char *word;
     bool (*holds)(struct row *row, const char *text);
   } words[] = {
-    { "see ", see },     { "told ", told },     { "drives ", drives }, { "drove ", drove },
-    { "state ", state }, { "missed ", missed }, { "log ", whole_log }, { "counters ", counters },
+    { "see ", see },     { "event ", reported }, { "drives ", drives }, { "drove ", drove },
+    { "state ", state }, { "missed ", missed },  { "log ", whole_log }, { "counters ", counters },
     { "stands ", stands },
   };
   char refusal[LINE_ROOM];
@@ -292,7 +292,7 @@ static bool holds(struct row *row, const char *line)
 static bool ends(struct row *row)
 {
   skip_quiet_times(row);
-  return row->told == row->times;
+  return row->compared == row->times;
 }
 
 int main(int count, char **words)

@@ -34,10 +34,10 @@ from riddlesage import (
     Phase,
     Port,
     Refused,
+    Reported,
     Rule,
     State,
     Status,
-    Told,
     decode,
     decode_trace,
     encode,
@@ -75,7 +75,7 @@ class Row:
         self.port = Port(0, 0)
         self.in_one_call = in_one_call
         self.drove: list[int] = []
-        self.told: list[tuple[int, Told]] = []
+        self.events: list[tuple[int, Reported]] = []
 
     def see(self, text: str) -> None:
         """Samples levels, one by one or in one call."""
@@ -84,23 +84,23 @@ class Row:
             seen = len(self.port.log)
             run = self.port.run(levels)
             self.drove += run.drives
-            for time, event in run.told():
+            for time, event in run.reported():
                 frame: Frame | None = None
                 if event in (Event.SENT, Event.RECEIVED) and seen < len(self.port.log):
                     frame, seen = self.port.entry(seen).frame, seen + 1
-                self.told.append((now + time, Told(event, frame)))
+                self.events.append((now + time, Reported(event, frame)))
             return
         for time, level in enumerate(levels, now):
             self.port = self.port.copy()
             self.drove.append(self.port.drive())
-            told = self.port.sample(level)
-            if told:
-                self.told.append((time, told))
+            reported = self.port.sample(level)
+            if reported:
+                self.events.append((time, reported))
 
-    def next_told(self) -> str:
+    def next_event(self) -> str:
         """The text of the next event."""
-        time, told = self.told.pop(0)
-        return f"{time} {name_of(told.event)}" + (f" {told.frame.text}" if told.frame else "")
+        time, reported = self.events.pop(0)
+        return f"{time} {name_of(reported.event)}" + (f" {reported.frame.text}" if reported.frame else "")
 
     def hand_in(self, text: str) -> None:
         """Makes a port, queues a frame, or requests overload frames."""
@@ -120,9 +120,9 @@ class Row:
         if word == "see":
             self.see(rest)
             return None, None
-        if word == "told":
-            told = self.next_told()
-            return (rest, told) if not self.in_one_call or "S" in told else (rest[: len(told)], told)
+        if word == "event":
+            event = self.next_event()
+            return (rest, event) if not self.in_one_call or "S" in event else (rest[: len(event)], event)
         if word == "drives":
             return int(rest), self.port.drive()
         if word == "drove":
@@ -156,7 +156,7 @@ class Rows(unittest.TestCase):
                 continue
             with self.subTest(line):
                 if not line:
-                    self.assertEqual(row.told, [])
+                    self.assertEqual(row.events, [])
                     continue
                 refusal, colon, call = line.rpartition(": ")
                 if call.split(" ")[0] in ("idle", "joining", "offer", "hold"):
@@ -204,10 +204,10 @@ class Scenarios(unittest.TestCase):
     def test_trace(self) -> None:
         """The script that decodes a trace, and the library's own decoding of it."""
         script, path = HERE.parent / "examples" / "decode_trace.py", TOP / "examples" / "trace.txt"
-        told = subprocess.run([sys.executable, script, path], capture_output=True, check=True)
+        named = subprocess.run([sys.executable, script, path], capture_output=True, check=True)
         with path.open("rb") as trace:
             piped = subprocess.run([sys.executable, script], stdin=trace, capture_output=True, check=True)
-        self.assertEqual(told.stdout, piped.stdout)
+        self.assertEqual(named.stdout, piped.stdout)
         lines = [
             "11 S 123 D 0 ack",
             "59 E 048c0000 D 0 noack",
@@ -215,7 +215,7 @@ class Scenarios(unittest.TestCase):
             "148 S 001 D 0 ack",
             "258 S 000 R 8 ack",
         ]
-        self.assertEqual(told.stdout.decode("ascii").splitlines(), lines)
+        self.assertEqual(named.stdout.decode("ascii").splitlines(), lines)
         text = path.read_text(encoding="ascii")
         self.assertEqual(decode_trace(text), lines)
         self.assertEqual(decode_trace(levels_of("".join(text.split()))), lines)
@@ -376,7 +376,7 @@ class Refusals(unittest.TestCase):
         self.assertEqual(play(ports, 1, [(0, 0, frame), (0, 0, frame)]), (b"\0", 1))
         ports[1].close()
         self.refused(Status.NO_PORT, play, ports, 1)
-        self.assertEqual(str(ports[0].phase), "stuffed 1, sender; Arbitration")
+        self.assertEqual(str(ports[0].phase), "stuffed-part 1, sender; Arbitration")
 
     def test_calls_follow(self) -> None:
         """Calls for the same ports, and single bit times, continue from the state that the previous ones reached."""
@@ -477,12 +477,12 @@ class Refusals(unittest.TestCase):
             ("riddlesage_event_name", [name_of(event) for event in Event]),
             ("riddlesage_phase_name", [phase.name.lower().replace("_", "-") for phase in Phase]),
         ):
-            told = getattr(lib, function)
-            self.assertEqual(names, [told(code).decode("ascii") for code in range(len(names))])
-            self.assertIsNone(told(len(names)))
-        told = lib.riddlesage_rule_name
+            name = getattr(lib, function)
+            self.assertEqual(names, [name(code).decode("ascii") for code in range(len(names))])
+            self.assertIsNone(name(len(names)))
+        name = lib.riddlesage_rule_name
         rules = {rule.value: rule.name.replace("_", " ").capitalize() for rule in Rule}
-        self.assertEqual(rules, {code: told(code).decode("ascii") for code in range(20) if told(code)})
+        self.assertEqual(rules, {code: name(code).decode("ascii") for code in range(20) if name(code)})
 
 
 class Memory(unittest.TestCase):

@@ -1,18 +1,19 @@
 /*
  * The golden model for simulators of Verilog with VPI, as system functions and tasks:
  *
- *   port = $riddlesage_port(waiting, joins);     a new port, a number from 0 on
- *   $riddlesage_reset(port, waiting, joins);     a new port in its place: its queue capacity; 0 idle, 1 bus integration
- *   $riddlesage_copy(port, from);                makes it a copy of another port
- *   $riddlesage_offer(port, frame);              queues a frame of 99 bits: extended, remote, identifier, DLC, data
- *   $riddlesage_hold(port, count);               requests 0 to 2 overload frames
- *   level = $riddlesage_drive(port);             the level that it drives
- *   told = $riddlesage_sample(port, level);      passes a bit time; its event, a riddlesage_event
- *   frame = $riddlesage_frame(port);             the last frame that was sent or received
+ *   port = $riddlesage_port(waiting, integrating);  a new port, a number from 0 on
+ *   $riddlesage_reset(port, waiting, integrating);  a new port in its place, with this queue capacity:
+ *                                                   0 idle, 1 bus integration
+ *   $riddlesage_copy(port, from);                   makes it a copy of another port
+ *   $riddlesage_offer(port, frame);                 queues a frame of 99 bits: extended, remote, identifier, DLC, data
+ *   $riddlesage_hold(port, count);                  requests 0 to 2 overload frames
+ *   level = $riddlesage_drive(port);                the level that it drives
+ *   event_code = $riddlesage_sample(port, level);   passes a bit time; its event, a riddlesage_event
+ *   frame = $riddlesage_frame(port);                the last frame that was sent or received
  *   tec = $riddlesage_tec(port); rec = $riddlesage_rec(port);
- *   phase = $riddlesage_phase(port);             its phase, a riddlesage_phase
- *   $riddlesage_stands(port);                    writes its state: phase, role, and the rule that decides
- *   $riddlesage_tell(told, frame);               writes an event, with the frame if one was sent or received
+ *   phase = $riddlesage_phase(port);                its phase, a riddlesage_phase
+ *   $riddlesage_stands(port);                       writes its state: phase, role, and the rule that decides
+ *   $riddlesage_report(event_code, frame);          writes an event, with the frame if one was sent or received
  *
  * The data of a frame are its lowest 64 bits, the first byte in the highest of these. The simulation ends with a
  * message if the library refuses a call, a port does not exist, or a level or a frame has an x or a z. Nothing here is
@@ -128,8 +129,8 @@ static void give_number(int given)
 
 static void make(int port, struct arguments *of)
 {
-  int waiting = number(of), joins = number(of);
-  demand((joins != 0 ? riddlesage_port_joining : riddlesage_port_idle)(&ports[port], (size_t)waiting, 0));
+  int waiting = number(of), integrating = number(of);
+  demand((integrating != 0 ? riddlesage_port_joining : riddlesage_port_idle)(&ports[port], (size_t)waiting, 0));
 }
 
 static PLI_INT32 call_port(PLI_BYTE8 *data)
@@ -367,17 +368,17 @@ static void write_frame(const riddlesage_frame *frame)
     vpi_printf("%02x", frame->data[place]);
 }
 
-static PLI_INT32 call_tell(PLI_BYTE8 *data)
+static PLI_INT32 call_report(PLI_BYTE8 *data)
 {
   struct arguments of = arguments();
-  int told = number(&of);
-  const char *name = riddlesage_event_name((riddlesage_event)told);
+  int event = number(&of);
+  const char *name = riddlesage_event_name((riddlesage_event)event);
   const char *why;
   riddlesage_frame frame;
 
   (void)data;
   vpi_printf("%s", name != NULL ? name : "no event");
-  if (told == RIDDLESAGE_SENT || told == RIDDLESAGE_RECEIVED) {
+  if (event == RIDDLESAGE_SENT || event == RIDDLESAGE_RECEIVED) {
     why = take_frame(&of, &frame);
     if (why != NULL)
       vpi_printf(" (%s)", why);
@@ -420,7 +421,7 @@ static void announce_all(void)
   announce("$riddlesage_frame", call_frame, vpiSizedFunc, NULL);
   announce("$riddlesage_phase", call_phase, vpiIntFunc, NULL);
   announce("$riddlesage_stands", call_stands, 0, NULL);
-  announce("$riddlesage_tell", call_tell, 0, NULL);
+  announce("$riddlesage_report", call_report, 0, NULL);
   announce("$riddlesage_tec", call_counter, vpiIntFunc, transmit_counter);
   announce("$riddlesage_rec", call_counter, vpiIntFunc, receive_counter);
 }

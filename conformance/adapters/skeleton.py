@@ -31,7 +31,7 @@ class Controller:
     def sample(self, level: int) -> str | None:
         """Samples the level of the bus in this bit time.
 
-        Returns the event, such as `error stuff`, `sent S 123 R 0` or `received E 12345678 D 1 c3`, or None if there is
+        Returns the event, such as `stuff error`, `sent S 123 R 0` or `received E 12345678 D 1 c3`, or None if there is
         none. A controller that does not report events always returns None.
         """
         return None

@@ -34,7 +34,7 @@ def probe_rec(scene: Scene) -> None:
     scene.rest(1, "probe of REC")
     raise_rec(scene, PASSIVE_LIMIT - 1)
     scene.stuff_error()
-    scene.recover("an active flag, delimiter, intermission")
+    scene.recover("an active error flag, delimiter, intermission")
     scene.stuff_error()
     scene.recover("a passive flag, delimiter, intermission")
     scene.rest(2)

@@ -19,7 +19,7 @@ SECONDS_A_LEVEL = 0.001
 ENDING_SECONDS = 2.0
 MOST_SHOWN = 60
 MOST_DIGITS = 9
-EVENT_EXAMPLES = "an event such as 'error stuff', 'sent S 123 R 0' or 'received E 12345678 D 1 c3'"
+EVENT_EXAMPLES = "an event such as 'stuff error', 'sent S 123 R 0' or 'received E 12345678 D 1 c3'"
 
 
 class Void(Exception):

@@ -19,7 +19,7 @@ _TURNED = (
     *((r"&&", "||"), (r"\|\|", "&&"), (r"!(?=[\w(])", ""), (r"\+\+", "--")),
     *((r"\btrue\b", "false"), (r"\bfalse\b", "true")),
     *((r"\bDOMINANT\b", "RECESSIVE"), (r"\bRECESSIVE\b", "DOMINANT")),
-    *((r"\bERROR_BIT\b", "ERROR_FORM"), (r"\bERROR_FORM\b", "ERROR_BIT")),
+    *((r"\bBIT_ERROR\b", "FORM_ERROR"), (r"\bFORM_ERROR\b", "BIT_ERROR")),
 )
 # the first line of a function definition, with its name
 _FUNCTION = re.compile(r"[a-z][\w *]*?(\w+)\(")

@@ -30,7 +30,7 @@ def _event_difference(events: Sequence[Event], expected: Sequence[Event]) -> Dif
     reported, due = dict(events), dict(expected)
     for time in sorted(set(reported) | set(due)):
         if reported.get(time) != due.get(time):
-            text = f"told {reported.get(time, 'nothing')} not {due.get(time, 'nothing')}"
+            text = f"reported {reported.get(time, 'nothing')} not {due.get(time, 'nothing')}"
             return time, EVENT, text
     return None
 

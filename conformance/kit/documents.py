@@ -33,6 +33,7 @@ CHOICES = (
 )
 MOST_CASES = 4096
 MOST_BITS = 100_000
+MOST_COUNT = 65_535
 
 _CASE_KEYS = (
     *("version", "name", "family", "purpose", "start", "needs", "choices", "bits", "tester"),
@@ -41,55 +42,64 @@ _CASE_KEYS = (
 _TRANSCRIPT_KEYS = ("version", "case", "drove", "events", "counters", "end")
 _NAME = re.compile(r"[a-z0-9-]{1,80}")
 _FAMILY = re.compile(r"[a-z0-9-]{1,40}")
-_PLAIN_EVENTS = ("lost", "overload", "off", "recovered")
-_ERROR_KINDS = ("stuff", "bit", "form", "crc", "ack")
+_PLAIN_EVENTS = (
+    *("lost", "bit error", "stuff error", "crc error", "form error", "ack error"),
+    *("overload", "went off", "recovered"),
+)
 
 Event = Tuple[int, str]
 State = Tuple[str, int, int]
 
 
-# what a field must be; `[]` stands for an element of a list
-_RULES = {
-    "toml": "must be a TOML document",
-    "key": "unknown field: only case and transcript are known",
-    "case": f"must be at most {MOST_CASES} tables",
-    "transcript": f"must be at most {MOST_CASES} tables",
-    "": "must be a table",
-    ".key": "unknown field",
-    ".version": "must be 1",
-    ".family": "must be 1 to 40 of a to z, 0 to 9 and hyphen",
-    ".name": "must begin with the family and a hyphen, have at most 80 of a to z, 0 to 9 and hyphen, and be new",
-    ".purpose": "must be one line of at most 200 bytes",
-    ".start": "must be idle or joining",
-    ".needs": f"must be those of {', '.join(NEEDS)} that the case needs, in this order",
-    ".choices": f"must be some of {', '.join(CHOICES)}",
-    ".bits": f"must be 1 to {MOST_BITS}",
-    ".tester": "must be 1 to 4096 strings that have `bits` levels together",
-    ".tester[]": "must be levels, such as 0101 1*9",
-    ".offers": "must be at most 256 of [bit time, frame]",
-    ".offers[]": "must be a bit time of the case, not before the last one, and a frame such as S 123 D 1 c3",
-    ".holds": "must be at most 256 of [bit time, number]",
-    ".holds[]": "must be a bit time of the case, not before the last one, and 0 to 2",
-    ".forced": "must be at most 4096 bit times",
-    ".forced[]": "must be a bit time of the case after the last one, in which the tester is recessive",
-    ".case": "must be the name of a case, and no earlier transcript may have it",
-    ".drove": f"must be 1 to 4096 strings that have at most {MOST_BITS} levels together",
-    ".drove[]": "must be levels, such as 0101 1*9",
-    ".events": f"must be at most {MOST_BITS} of [bit time, event]",
-    ".events[]": "must be a bit time after the last one, and an event such as error stuff",
-    ".counters": f"must be at most {MOST_BITS} of [bit time, TEC, REC]",
-    ".counters[]": "must be a bit time after the last one, and two numbers of at most 300",
-    ".end": "must be active, passive or off, and two numbers of at most 300",
+# What a field must be, in the words of canhold (crates/kit_documents/src/field_words.rt); `[]` stands for a number.
+RULES = {
+    "toml": "must be a TOML document in UTF-8",
+    "key": "a field at the top must be case or transcript",
+    "case": "must be an array of at most 4096 tables, [[case]]",
+    "transcript": "must be an array of at most 4096 tables, [[transcript]]",
+    "case[]": "must be a table, [[case]]",
+    "case[].key": "a field of this table must be version, name, family, purpose, start, needs, choices, bits, tester, "
+    "offers, holds or forced",
+    "case[].version": "must be 1",
+    "case[].family": "must be 1 to 40 letters from a to z, digits and hyphens",
+    "case[].name": "must begin with the family and a hyphen, have at most 80 letters a to z, digits and hyphens, "
+    "and be new",
+    "case[].purpose": "must be one line of at most 200 bytes",
+    "case[].start": "must be 'idle' or 'joining'",
+    "case[].needs": "must be some of 'forced', 'hold', 'queue', 'recovery', in this order, and include what the case "
+    "uses",
+    "case[].choices": "must be an array of names of choices, such as 'own-start'",
+    "case[].bits": "must be 1 to 100000 bit times",
+    "case[].tester": "must be an array of 1 to 4096 strings of levels, together one for each bit time",
+    "case[].tester[]": "must be a string of levels, such as '1*9 0101'",
+    "case[].offers": "must be an array of at most 256 elements [time, 'FRAME']",
+    "case[].offers[]": "must be [time, 'FRAME'], with a time below bits and not before the preceding one",
+    "case[].holds": "must be an array of at most 256 elements [time, n]",
+    "case[].holds[]": "must be [time, n], n 0 to 2, with a time below bits and not before the preceding one",
+    "case[].forced": "must be an array of at most 4096 times",
+    "case[].forced[]": "must be a time below bits and after the preceding one, when the tester is recessive",
+    "transcript[]": "must be a table, [[transcript]]",
+    "transcript[].key": "a field of this table must be version, case, drove, events, counters or end",
+    "transcript[].version": "must be 1",
+    "transcript[].case": "must be the name of a case of the document that no earlier transcript has",
+    "transcript[].drove": "must be an array of at most 4096 strings of levels, together at most 100000",
+    "transcript[].drove[]": "must be a string of levels, such as '1*9 0101'",
+    "transcript[].events": "must be an array of at most 100000 elements [time, 'EVENT']",
+    "transcript[].events[]": "must be [time, 'EVENT'], with a time of at most 100000 and after the preceding one",
+    "transcript[].counters": "must be an array of at most 100000 elements [time, TEC, REC]",
+    "transcript[].counters[]": "must be [time, TEC, REC], at most 65535 each, with a time of at most 100000 and after "
+    "the preceding one",
+    "transcript[].end": "must be ['STATE', TEC, REC], STATE active, passive or off, and TEC and REC at most 65535",
 }
 
 
 class DocumentFault(Exception):
-    """The first wrong field of a document, such as `P2 case[3].bits: must be 1 to 100000`."""
+    """The first wrong field of a document, such as `P2 case[3].bits: must be 1 to 100000 bit times`."""
 
     def __init__(self, place: str) -> None:
         self.place = place
-        field_name = re.sub(r"^(?:case|transcript)\[\d+\]|(?<=\[)\d+(?=\])", "", place)
-        super().__init__(f"P2 {place}: {_RULES[field_name]}")
+        rule = RULES[re.sub(r"\d+", "", place)]
+        super().__init__(f"P2 {place}: {rule}")
 
 
 @dataclass
@@ -139,7 +149,7 @@ def is_event(text: object) -> bool:
     word, _, rest = text.partition(" ")
     if word in ("sent", "received"):
         return is_frame(rest)
-    return text in _PLAIN_EVENTS or word == "error" and rest in _ERROR_KINDS
+    return text in _PLAIN_EVENTS
 
 
 # Reading
@@ -174,9 +184,9 @@ def _strings(values: object, known: Iterable[str]) -> bool:
     return all(one < other for one, other in zip(places, places[1:]))
 
 
-def _levels_of(strings: object, place: str, most: int) -> list[tuple[str, str]]:
+def _levels_of(strings: object, place: str, least: int) -> list[tuple[str, str]]:
     read = []
-    for index, text in enumerate(_list_of(strings, place, 1, most)):
+    for index, text in enumerate(_list_of(strings, place, least, 4096)):
         try:
             read.append((read_levels(text), ""))
         except (ValueError, AttributeError):
@@ -215,7 +225,7 @@ def _read_case(value: object, place: str, names: dict[str, Case]) -> Case:
     _require(good, f"{place}.choices")
     bits = table.get("bits")
     _require(_is_number(bits, 1, MOST_BITS), f"{place}.bits")
-    tester = _levels_of(table.get("tester"), f"{place}.tester", 4096)
+    tester = _levels_of(table.get("tester"), f"{place}.tester", 1)
     case = Case(str(name), str(family), tester, purpose, table["start"], needs, choices)
     _require(len(case.levels) == bits, f"{place}.tester")
 
@@ -238,7 +248,7 @@ def _read_case(value: object, place: str, names: dict[str, Case]) -> Case:
 
 
 def _is_count(row: list[Any]) -> bool:
-    return len(row) == 3 and all(_is_number(number, 0, 300) for number in row[1:])
+    return len(row) == 3 and all(_is_number(number, 0, MOST_COUNT) for number in row[1:])
 
 
 def _read_transcript(value: object, place: str, names: dict[str, Case], seen: dict[str, Any]) -> Transcript:
@@ -247,7 +257,7 @@ def _read_transcript(value: object, place: str, names: dict[str, Case], seen: di
     _require(_is_number(table.get("version"), 1, 1), f"{place}.version")
     name = table.get("case")
     _require(isinstance(name, str) and name in names and name not in seen, f"{place}.case")
-    drove = "".join(levels for levels, _ in _levels_of(table.get("drove"), f"{place}.drove", 4096))
+    drove = "".join(levels for levels, _ in _levels_of(table.get("drove"), f"{place}.drove", 0))
     _require(len(drove) <= MOST_BITS, f"{place}.drove")
     transcript = Transcript(str(name), drove)
     if "events" in table:
@@ -258,7 +268,7 @@ def _read_transcript(value: object, place: str, names: dict[str, Case], seen: di
     if "end" in table:
         end = table["end"]
         good = isinstance(end, list) and len(end) == 3 and end[0] in ("active", "passive", "off")
-        _require(good and all(_is_number(it, 0, 300) for it in end[1:]), f"{place}.end")
+        _require(good and all(_is_number(it, 0, MOST_COUNT) for it in end[1:]), f"{place}.end")
         transcript.end = (end[0], end[1], end[2])
     return transcript
 

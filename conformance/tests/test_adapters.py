@@ -53,7 +53,7 @@ class Answers(unittest.TestCase):
     def test_six_dominant_levels(self) -> None:
         """While the controller is idle: a stuff error, then a flag of six bits, and a REC of 1."""
         given = self.answered(["case a idle", "play 000000", "play 11111111", "end"])
-        due = ["ready", "event 5 error stuff", "drove 111111", "drove 00000011", "state active 0 1"]
+        due = ["ready", "event 5 stuff error", "drove 111111", "drove 00000011", "state active 0 1"]
         self.assertEqual(given, due)
 
     def test_a_frame_is_sent_as_documented(self) -> None:

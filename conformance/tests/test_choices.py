@@ -36,7 +36,7 @@ class Choices(unittest.TestCase):
         """Levels, frames and numbers are left out."""
         rows = [
             ("received E 1fffffff D 1 c3", "sent S 123 R 0", "received not sent"),
-            ("error form", "error bit", "error form not error bit"),
+            ("form error", "bit error", "form error not bit error"),
         ]
         for event, due, kinds in rows:
             found = differences(Transcript("", "1", [(0, event)]), Transcript("", "1", [(0, due)]))

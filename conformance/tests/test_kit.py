@@ -10,7 +10,7 @@ from kit import toml_subset
 from kit.adapter import EVENT_EXAMPLES
 from kit.changes import changes
 from kit.comparing import differences
-from kit.documents import DocumentFault, Transcript, read_document, write_case, write_transcript
+from kit.documents import RULES, DocumentFault, Transcript, read_document, write_case, write_transcript
 from kit.frames import Frame
 from kit.levels import read_levels, write_levels
 from kit.library import FOLDER, read_library
@@ -22,6 +22,7 @@ from kit.reports import event_lines, shown_lines, window_lines
 from kit.session import Session
 
 TOP = os.path.dirname(os.path.dirname(os.path.realpath(__file__)))
+WORDS = os.path.join(os.path.dirname(TOP), "crates", "kit_documents", "src", "field_words.rt")
 
 CASE = """[[case]]
 version = 1
@@ -67,6 +68,12 @@ class Documents(unittest.TestCase):
         self.assertRegex(str(raised.exception), rf"^P2 {re.escape(raised.exception.place)}: .")
         return raised.exception.place
 
+    def test_words_are_those_of_canhold(self) -> None:
+        """Both report what a field must be in the same words; `expect` of canhold alone takes no transcripts."""
+        with open(WORDS, encoding="utf-8") as file:
+            arms = re.findall(r"::\w+(?:\(_\))? => (?:\{\s*)?\"([^\"]*)\"", file.read())
+        self.assertEqual({it.split("; for expect")[0] for it in arms}, set(RULES.values()))
+
     def test_cases_come_back(self) -> None:
         for case in read_library([FOLDER])[0]:
             again = read_document(write_case(case))[0][0]
@@ -84,7 +91,7 @@ class Documents(unittest.TestCase):
         self.assertEqual(self.place(CASE + CASE), "case[1].name")
 
     def test_transcripts_come_back(self) -> None:
-        given = Transcript("some-case", "1" * 20, [(3, "error stuff")], [(3, 0, 1)], ("active", 0, 1))
+        given = Transcript("some-case", "1" * 20, [(3, "stuff error")], [(3, 0, 1)], ("active", 0, 1))
         self.assertEqual(read_document(CASE + write_transcript(given))[1], [given])
 
     def test_the_small_reader_reads_the_cases(self) -> None:
@@ -152,11 +159,11 @@ class Reports(unittest.TestCase):
 
     def test_the_events_around_a_failure(self) -> None:
         """They are shown if they differ there, and if the adapter reports any."""
-        given = Transcript("some-case", "1" * 20, [(3, "error form"), (9, "lost")])
-        due = Transcript("some-case", "1" * 20, [(3, "error bit"), (7, "sent S 123 R 0"), (9, "lost")])
+        given = Transcript("some-case", "1" * 20, [(3, "form error"), (9, "lost")])
+        due = Transcript("some-case", "1" * 20, [(3, "bit error"), (7, "sent S 123 R 0"), (9, "lost")])
         rows = [
             "  event  reported    due",
-            "  3      error form  error bit",
+            "  3      form error  bit error",
             "  7      nothing     sent S 123 R 0",
             "  9      lost        lost",
         ]

@@ -53,8 +53,8 @@ class Runs(unittest.TestCase):
         skipping = ["sh", "-c", "printf 'can-kit 1 none\nskip all\n'; cat > /dev/null"]
         silent = [sys.executable, "-c", SILENT]
         elsewhere = ["--expect", os.path.join(TOP, "transcripts", "rx-dlc.toml")]
-        told = "run: nothing was compared: no case was played that has an expected transcript\n"
-        written = ["--transcripts", self.path("told.toml")]
+        reported = "run: nothing was compared: no case was played that has an expected transcript\n"
+        written = ["--transcripts", self.path("written.toml")]
         rows: list[tuple[list[str], list[str], int]] = [
             (["--expect", TRANSCRIPTS, "--without", "forced"], skipping, 5),
             (elsewhere, silent, 5),
@@ -65,11 +65,11 @@ class Runs(unittest.TestCase):
         for options, command, status in rows:
             words = [os.path.join(TOP, "run"), "--only", "arbitration-equal-same", *options, "--", *command]
             run = subprocess.run([sys.executable, *words], capture_output=True, text=True, timeout=60)
-            self.assertEqual((run.returncode, run.stderr), (status, told if status else ""))
+            self.assertEqual((run.returncode, run.stderr), (status, reported if status else ""))
 
     def test_wrong_uses(self) -> None:
         """A run without cases does not pass, and no wrong option ends in a stack trace."""
-        nowhere = self.path("nowhere/told")
+        nowhere = self.path("nowhere/written")
         wrong = (
             (["--only", "no-such"], "there are no cases whose names begin with no-such"),
             (["--cases", nowhere], f"[Errno 2] No such file or directory: '{nowhere}'"),
@@ -78,9 +78,9 @@ class Runs(unittest.TestCase):
             (["--reference", "true"], "the reference does not play arbitration-equal-same: void ended, status 0"),
             (["--reference", "'"], "No closing quotation"),
         )
-        for options, told in wrong:
+        for options, reported in wrong:
             run = self.run_kit(options, ["true"])
-            self.assertEqual((run.returncode, run.stdout, run.stderr), (2, "", f"run: {told}\n"))
+            self.assertEqual((run.returncode, run.stdout, run.stderr), (2, "", f"run: {reported}\n"))
 
     def test_a_command_that_cannot_be_started(self) -> None:
         """It ends the run at once."""

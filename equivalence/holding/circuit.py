@@ -1,7 +1,7 @@
 """The circuit that designs are compared with, read from its Verilog: words, gates, outputs and next-state logic.
 
-Its statements have three forms: `wire n3 = n1 & ~n2;` (or a name in place of the gate), `assign told[0] = n7;`, and
-`phase[0] <= n9;`.
+Its statements have three forms: `wire n3 = n1 & ~n2;` (or a name in place of the gate), `assign event_code[0] = n7;`,
+and `phase[0] <= n9;`.
 """
 
 from __future__ import annotations

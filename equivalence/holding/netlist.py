@@ -59,6 +59,7 @@ class Netlist:
         self.drivers: dict[Key, tuple[str, list[Side]]] = {}  # a kind of KINDS, and its inputs
         self.registers: dict[Key, Side] = {}
         self.unknown = 0
+        self.latches: list[str] = []
         self.circuit = circuit
         ports = module["ports"]
         self.inputs = {name: self.keys(it["bits"]) for name, it in ports.items() if it["direction"] == "input"}
@@ -167,6 +168,7 @@ class Netlist:
             self.drivers[pins["Y"][0]] = (kind, [(key, False) for key in read])
         elif kind in LATCHES:
             # a latch that is not transparent counts as having any value
+            self.latches.append(self.called(name, pins))
             sides = self.keys([pins["E"][0], "x", pins["D"][0]])
             self.drivers[pins["Q"][0]] = ("$_MUX_", [(sides[0], LATCHES[kind]), (sides[1], False), (sides[2], False)])
         elif kind == "$_DFF_P_":

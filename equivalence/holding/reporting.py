@@ -12,15 +12,15 @@ from holding.waves import waves
 PHASES = [
     ("idle", None, "Start of frame"),
     ("joining", "place", "Joining"),
-    ("stuffed", "heard_count", "Stuff places"),
+    ("stuffed-part", "heard_count", "Stuff places"),
     ("crc-delimiter", None, "Fixed form"),
     ("ack-slot", None, "Acknowledgement"),
     ("ack-delimiter", None, "Fixed form"),
     ("end-of-frame", "place", "Fixed form"),
-    ("active-flag", "place", "Error flags"),
+    ("error-flag", "place", "Error flags"),
     ("passive-flag", "place", "Error flags"),
     ("overload-flag", "place", "Overload flags"),
-    ("behind-flag", "place", "Behind a flag"),
+    ("after-flag", "place", "After a flag"),
     ("delimiter", "place", "Delimiter"),
     ("intermission", "place", "Intermission"),
     ("suspend", "place", "Suspend transmission"),
@@ -28,9 +28,9 @@ PHASES = [
 ]
 STUFFED_PART = 2
 EVENTS = ["nothing", "sent", "received", "lost"]
-EVENTS += [f"error {kind}" for kind in ("bit", "stuff", "crc", "form", "ack")] + ["overload", "off", "recovered"]
+EVENTS += [f"{kind} error" for kind in ("bit", "stuff", "crc", "form", "ack")] + ["overload", "went off", "recovered"]
 LEVELS = ("0 (dominant)", "1 (recessive)")
-OUTPUTS = ["drive", "told", "frame_extended", "frame_remote", "frame_identifier", "frame_dlc", "frame_data"]
+OUTPUTS = ["drive", "event_code", "frame_extended", "frame_remote", "frame_identifier", "frame_dlc", "frame_data"]
 OUTPUTS += ["tec", "rec", "passive", "off"]
 MOST_PARTS = 6
 # what a counterexample may mean, by the query that has one
@@ -80,8 +80,8 @@ def inputs(found: Counterexample, at: int) -> str:
     shown = [f"bus {LEVELS[found.number(at, 'gates.bus')]}"]
     if found.number(at, "gates.waits"):
         shown.append(f"pending frame {pending(found, at)}")
-    if found.number(at, "gates.hold"):
-        shown.append(f"overload frames requested: {found.number(at, 'gates.hold_wish')}")
+    if found.number(at, "gates.overload_request"):
+        shown.append(f"overload frames requested: {found.number(at, 'gates.overload_count')}")
     if not found.number(at, "gates.enable"):
         shown.append("enable 0")
     return ", ".join(shown)
@@ -103,7 +103,7 @@ def report(found: Counterexample) -> list[str]:
         lines.append("  before: any state; reset")
     else:
         lines += [f"  before: {state(found, now)}", f"  inputs: {inputs(found, now)}"]
-        drives, event = found.number(now, "gates.drive"), found.number(now, "gates.told")
+        drives, event = found.number(now, "gates.drive"), found.number(now, "gates.event_code")
         lines.append(f"  circuit: drives {LEVELS[drives]}, event {EVENTS[event] if event < len(EVENTS) else event}")
     if now < found.at:
         lines.append(f"  after: {state(found, found.at)}")

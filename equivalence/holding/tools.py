@@ -14,6 +14,7 @@ from holding.faults import FAILED, Fault
 from holding.gates import Gates
 
 SOLVERS = {"cadical": "cadical", "abc": "berkeley-abc"}
+MISSING = re.compile(r"Module `\\?(\S+)' referenced in module `\\?(\S+)' in cell `\\?(\S+)' is not part of the design")
 GHDL_ERROR = re.compile(r":\d+:\d+: |error|raised")
 PACKAGES = {"yosys": "yosys", "cadical": "cadical", "berkeley-abc": "berkeley-abc"}
 
@@ -46,6 +47,8 @@ def ran_yosys(script: Sequence[str], room: pathlib.Path) -> None:
     )
     if ran.returncode:
         errors = [line for line in ran.stdout.splitlines() if "ERROR" in line] or ran.stdout.splitlines()[-3:]
+        if found := MISSING.search("\n".join(errors)):
+            raise Fault(f"no file has the module {found[1]}, of which {found[2]} has the instance {found[3]}")
         raise Fault("yosys: " + "; ".join(errors))
 
 

@@ -23,7 +23,7 @@ from peer.graph import Graph, Word, constant
     ERROR_FLAG,
     PASSIVE_FLAG,
     OVERLOAD_FLAG,
-    BEHIND_FLAG,
+    AFTER_FLAG,
     DELIMITER,
     INTERMISSION,
     SUSPEND,
@@ -81,8 +81,8 @@ class Controller:
         self.dominant = self.bus ^ 1
         self.receiver = self.sender ^ 1
         self.passive = graph.any(*self.tec[7:], self.rec[7])
-        asks = graph.both(self.hold, graph.is_number(self.hold_wish, 3) ^ 1)
-        self.wish = graph.select(asks, [*self.hold_wish, FALSE, FALSE], self.pending)
+        asks = graph.both(self.overload_request, graph.is_number(self.overload_count, 3) ^ 1)
+        self.requested = graph.select(asks, [*self.overload_count, FALSE, FALSE], self.pending)
         self.held_back = graph.both(self.sender, self.passive)
         self.is_in = [graph.is_number(self.phase, number) for number in range(15)]
         self.agrees = graph.is_number(self.front.check, 0)
@@ -95,11 +95,15 @@ class Controller:
         """The circuit's inputs."""
         put = self.graph.input
         (self.reset,) = put("reset", 1, "loads the idle state, or that of bus integration, whatever `enable` is")
-        (self.joins,) = put("joins", 1, "with `reset`: bus integration, it waits for eleven recessive levels first")
+        (self.integrating,) = put(
+            "integrating", 1, "with `reset`: bus integration, it waits for eleven recessive levels first"
+        )
         (self.enable,) = put("enable", 1, "a bit time passes; if it is 0, nothing changes")
         (self.bus,) = put("bus", 1, "the sampled level: 1 is recessive")
-        (self.hold,) = put("hold", 1, "with `enable`: requests own overload frames, before the bit time")
-        self.hold_wish = put("hold_wish", 2, "how many, 0 to 2; 3 changes nothing")
+        (self.overload_request,) = put(
+            "overload_request", 1, "with `enable`: requests own overload frames, before the bit time"
+        )
+        self.overload_count = put("overload_count", 2, "how many, 0 to 2; 3 changes nothing")
         (self.waits,) = put("waits", 1, "a frame is pending")
         self.waiting = Frame(
             put("wait_extended", 1, "it has an extended identifier"),
@@ -143,7 +147,7 @@ class Controller:
             unacknowledged=FALSE,
             first=FALSE,
             sender=self.sender,
-            pending=self.wish,
+            pending=self.requested,
             used=self.used,
             cause=nibble(cause),
             event=nibble(event),
@@ -190,8 +194,8 @@ class Controller:
     def closes(self) -> Move:
         """Intermission begins, or an own overload frame instead."""
         graph = self.graph
-        asks = graph.all(self.receiver, graph.is_number(self.wish, 0) ^ 1, graph.is_under(self.used, 2))
-        own = replace(self.overloads(), pending=graph.less(self.wish), used=graph.more(self.used))
+        asks = graph.all(self.receiver, graph.is_number(self.requested, 0) ^ 1, graph.is_under(self.used, 2))
+        own = replace(self.overloads(), pending=graph.less(self.requested), used=graph.more(self.used))
         return self.choose(asks, own, self.goes(INTERMISSION))
 
     def under(self, number: int) -> int:
@@ -262,7 +266,7 @@ class Controller:
         return self.choose(self.sender, sent, received)
 
     def ack_delimiter(self) -> Move:
-        """Rules Fixed form, Refused check sequence."""
+        """Rules Fixed form, Refused CRC sequence."""
         refuses = self.graph.both(self.receiver, self.agrees ^ 1)
         silent = self.choose(refuses, self.errs(CRC_ERROR), self.goes(END_OF_FRAME))
         return self.choose(self.dominant, self.breaks_form(), silent)
@@ -283,7 +287,7 @@ class Controller:
     def flag(self, phase: int) -> Move:
         """An active error flag, or an overload flag; rule Error in an own flag."""
         broken = self.fails(nibble(BIT_ERROR), self.error_cause(RECEIVER_BY_8))
-        ended = replace(self.goes(BEHIND_FLAG), first=TRUE if phase == ERROR_FLAG else FALSE)
+        ended = replace(self.goes(AFTER_FLAG), first=TRUE if phase == ERROR_FLAG else FALSE)
         return self.choose(self.dominant, self.choose(self.under(5), self.step(phase), ended), broken)
 
     def passive_flag(self) -> Move:
@@ -298,17 +302,17 @@ class Controller:
             unacknowledged=graph.both(self.unacknowledged, self.bus),
             cause=cause,
         )
-        ended = replace(self.goes(BEHIND_FLAG), first=TRUE, cause=cause)
+        ended = replace(self.goes(AFTER_FLAG), first=TRUE, cause=cause)
         return self.choose(graph.is_under(run, 6), goes_on, ended)
 
-    def behind_flag(self) -> Move:
-        """Rule Behind a flag: `place` counts dominant levels, modulo eight."""
+    def after_flag(self) -> Move:
+        """Rule After a flag: `place` counts dominant levels, modulo eight."""
         graph = self.graph
         eighth = self.under(7) ^ 1
         counts = graph.either(eighth, graph.both(self.receiver, self.first))
         cause = graph.select(counts, self.error_cause(RECEIVER_BY_8), nibble(UNCOUNTED))
         place = graph.select(eighth, nibble(0), self.next_place)
-        dominant = replace(self.goes(BEHIND_FLAG, place), cause=cause)
+        dominant = replace(self.goes(AFTER_FLAG, place), cause=cause)
         return self.choose(self.dominant, dominant, self.goes(DELIMITER, nibble(1)))
 
     def delimiter(self) -> Move:
@@ -335,7 +339,7 @@ class Controller:
             ERROR_FLAG: self.flag(ERROR_FLAG),
             PASSIVE_FLAG: self.passive_flag(),
             OVERLOAD_FLAG: self.flag(OVERLOAD_FLAG),
-            BEHIND_FLAG: self.behind_flag(),
+            AFTER_FLAG: self.after_flag(),
             DELIMITER: self.delimiter(),
             INTERMISSION: self.intermission(),
             SUSPEND: self.suspend(),
@@ -389,7 +393,7 @@ class Controller:
     def take_all(self, move: Move, counters: list[tuple[Word, Word]]) -> None:
         """Sets the next values of all registers."""
         graph = self.graph
-        self.take(self.phase, move.phase, [self.joins, FALSE, FALSE, FALSE])
+        self.take(self.phase, move.phase, [self.integrating, FALSE, FALSE, FALSE])
         for register, word in [(self.place, move.place), (self.pending, move.pending), (self.used, move.used)]:
             self.take(register, word)
         for bit, literal in [(self.last, move.last), (self.first, move.first), (self.sender, move.sender)]:
@@ -423,7 +427,7 @@ class Controller:
         graph, put = self.graph, self.graph.output
         put("drive", [self.driven()], "the driven level of this bit time")
         passes = graph.both(self.enable, self.reset ^ 1)
-        put("told", [graph.both(passes, literal) for literal in move.event], "the event of this bit time, or 0")
+        put("event_code", [graph.both(passes, literal) for literal in move.event], "the event of this bit time, or 0")
         is_sent = graph.is_number(move.event, SENT)
         frame = heard_frame(graph, self.own).chosen(graph, is_sent, heard_frame(graph, self.front.levels))
         frame = masked(graph, frame)
@@ -441,11 +445,11 @@ class Controller:
     def legal(self) -> int:
         """An invariant of the registers in every run from reset."""
         graph, is_in, front = self.graph, self.is_in, self.front
-        most = {JOINING: 11, END_OF_FRAME: 7, ERROR_FLAG: 6, PASSIVE_FLAG: 6, OVERLOAD_FLAG: 6, BEHIND_FLAG: 8}
+        most = {JOINING: 11, END_OF_FRAME: 7, ERROR_FLAG: 6, PASSIVE_FLAG: 6, OVERLOAD_FLAG: 6, AFTER_FLAG: 8}
         most |= {DELIMITER: 8, INTERMISSION: 3, SUSPEND: 8, BUS_OFF: 11}
         parts = [graph.implies(is_in[phase], self.under(most.get(phase, 1))) for phase in range(15)]
         parts += [graph.implies(is_in[DELIMITER], self.under(1) ^ 1)]
-        parts += [graph.implies(self.first, graph.both(is_in[BEHIND_FLAG], self.under(1)))]
+        parts += [graph.implies(self.first, graph.both(is_in[AFTER_FLAG], self.under(1)))]
         parts += [graph.is_under(self.phase, 15), graph.is_under(self.tec, 264)]
         parts += [graph.differ(is_in[BUS_OFF], self.tec[8]) ^ 1]
         parts += [graph.is_under(self.pending, 3), graph.is_under(self.used, 3)]

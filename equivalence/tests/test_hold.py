@@ -28,9 +28,9 @@ from peer.verilog import written
 DESIGN = "module small(input clock, input reset, output drive, output reg [3:0] state); assign drive = 1'b1; \
 always @(posedge clock) state <= reset ? 4'd5 : state; endmodule"
 RELATION = """module relation(input clock, input reset, input bus, {outputs});
-    riddlesage_controller gates(.clock(clock), .reset(reset), .joins(1'b1), .enable(1'b1), .bus(bus), .hold(1'b0),
-        .hold_wish(2'd0), .waits(1'b0), .wait_extended(1'b0), .wait_remote(1'b0), .wait_identifier(29'd0),
-        .wait_dlc(4'd0), .wait_data(64'd0));
+    riddlesage_controller gates(.clock(clock), .reset(reset), .integrating(1'b1), .enable(1'b1), .bus(bus),
+        .overload_request(1'b0), .overload_count(2'd0), .waits(1'b0), .wait_extended(1'b0), .wait_remote(1'b0),
+        .wait_identifier(29'd0), .wait_dlc(4'd0), .wait_data(64'd0));
     small dut(.clock(clock), .reset(reset));
     {parts}
 endmodule
@@ -38,7 +38,7 @@ endmodule
 SAME = {"same_drive": "gates.drive == dut.drive"}
 STATE = {"holds_state": "dut.state == 4'd5"}
 # a receiver on a bus that is always recessive
-JOINS = {"given_silence": "bus", "holds_phase": "gates.phase <= 4'd1 && !gates.sender"}
+INTEGRATING = {"given_silence": "bus", "holds_phase": "gates.phase <= 4'd1 && !gates.sender"}
 
 
 def has_tools() -> bool:
@@ -78,8 +78,8 @@ class Files(unittest.TestCase):
 class Relations(Files):
     def test_what_is_equal(self) -> None:
         for solver in (name for name, command in SOLVERS.items() if shutil.which(command)):
-            ran = self.hold({**SAME, **STATE, **JOINS}, "--solver", solver)
-            self.prints(ran, 0, "not compared: told frame_extended")
+            ran = self.hold({**SAME, **STATE, **INTEGRATING}, "--solver", solver)
+            self.prints(ran, 0, "not compared: event_code frame_extended")
             self.assertIn("assumed: given_silence\n", ran.stdout)
             self.assertEqual(ran.stdout.splitlines()[-1], "equal in every run that meets given_silence")
             self.assertRegex(ran.stdout, r"(?m)^self-check: injected mutation detected, \d+\.\d s \(holds_state\)$")
@@ -104,7 +104,7 @@ class Relations(Files):
         self.prints(self.hold({**SAME, **STATE, "given_x": "1'b0"}), 5, "no legal state of the circuit")
 
     def test_a_mapping_that_a_reset_does_not_satisfy(self) -> None:
-        ran = self.hold({**SAME, **STATE, **JOINS, "holds_tec": "gates.tec_count == 9'd1"})
+        ran = self.hold({**SAME, **STATE, **INTEGRATING, "holds_tec": "gates.tec_count == 9'd1"})
         self.prints(ran, 1, "not proved: a state after a reset doesn't satisfy the register mapping")
         self.assertIn("holds_tec fails: gates.tec_count", ran.stdout)
 
@@ -112,7 +112,7 @@ class Relations(Files):
         design = DESIGN.replace("output drive,", "output drive, output sample_point,")
         design = design.replace("assign drive", "assign sample_point = {}; assign drive")
         text = RELATION.replace(".enable(1'b1)", ".enable(dut.sample_point)")
-        named = {**SAME, **STATE, "holds_phase": JOINS["holds_phase"], "given_silence": "bus"}
+        named = {**SAME, **STATE, "holds_phase": INTEGRATING["holds_phase"], "given_silence": "bus"}
         parts = "".join(f"assign {name} = {value};" for name, value in named.items())
         relation = self.put("relation.v", text.format(outputs=", ".join(f"output {it}" for it in named), parts=parts))
         for point in ("1'b0", "state == 4'd6"):
@@ -126,7 +126,7 @@ class Relations(Files):
 
     def test_an_assumption_on_what_follows(self) -> None:
         # no bit time that meets given_x can follow one that violates same_x: that is a difference nevertheless
-        parts = {**SAME, **STATE, **JOINS, "same_x": "bus || gates.phase != 4'd0"}
+        parts = {**SAME, **STATE, **INTEGRATING, "same_x": "bus || gates.phase != 4'd0"}
         del parts["given_silence"]
         self.prints(self.hold({**parts, "given_x": "gates.phase <= 4'd1"}), 1, "outputs: counterexample")
 
@@ -143,7 +143,7 @@ class Relations(Files):
     def test_a_difference(self) -> None:
         ran = self.hold({**SAME, **STATE, "holds_phase": "!gates.sender"}, "--vcd", str(self.room / "waves.vcd"))
         self.prints(ran, 1, "outputs: counterexample")
-        self.assertRegex(ran.stdout, r"(?m)^  before: (active-flag|overload-flag|ack-slot) ?\d?, receiver; [A-Z][a-z]")
+        self.assertRegex(ran.stdout, r"(?m)^  before: (error-flag|overload-flag|ack-slot) ?\d?, receiver; [A-Z][a-z]")
         self.assertIn("same_drive fails: dut.drive 1, gates.drive 0", ran.stdout)
         self.assertIn("choices: if the design differs, see docs/DECISIONS.md", ran.stdout)
         waves = (self.room / "waves.vcd").read_text()

@@ -12,12 +12,14 @@ import unittest
 FOLDER = pathlib.Path(__file__).resolve().parent.parent
 TOP = FOLDER.parent
 # the pages with sessions of `hold`, and how many each has
-PAGES = {FOLDER / "README.md": 2, TOP / "bindings" / "vhdl" / "README.md": 1}
+PAGES = {FOLDER / "README.md": 4, TOP / "bindings" / "vhdl" / "README.md": 1}
 sys.path.insert(0, str(FOLDER))
 
 from holding.tools import SOLVERS
 
 FAILS = re.compile(r"  \w+ fails: ")
+# how much --play has played in its time
+COUNTED = re.compile(r"(played|frames|errors|difference): |overload frames |no difference in |  [A-Z][\w ]+ [\d-]")
 NUMBER = r" (?:\d+|0x[0-9a-f]+)"
 # times, the circuit, the self-check's mutation, counters, roles, a pending frame or request, and values of registers
 CHOSEN = [
@@ -31,7 +33,7 @@ CHOSEN = [
 
 
 def has_tools() -> bool:
-    return shutil.which("yosys") is not None and any(map(shutil.which, SOLVERS.values()))
+    return all(map(shutil.which, ("yosys", "c++"))) and any(map(shutil.which, SOLVERS.values()))
 
 
 def sessions(page: pathlib.Path) -> dict[str, list[str]]:
@@ -41,6 +43,8 @@ def sessions(page: pathlib.Path) -> dict[str, list[str]]:
 
 
 def without_choices(line: str) -> str:
+    if COUNTED.match(line):
+        return re.sub(r"[ \d,.]+", " ", line)
     for pattern, instead in CHOSEN:
         line = re.sub(pattern, instead, line)
     return re.sub(rf"{NUMBER}(?: then{NUMBER})?(?=,|$)", "", line) if FAILS.match(line) else line
@@ -67,11 +71,13 @@ class Page(unittest.TestCase):
         other += ["  holds_a fails: dut.a 1, a 3", "  holds_b fails: b 1", "not proved"]
         self.assertTrue(are_shown(shown, other))
         self.assertFalse(are_shown(other, shown))
+        played = ["  Bus off  1,200", "overload frames 12, bus-off 1", "played: 12 bit times"]
+        self.assertTrue(are_shown(played, [re.sub("1", "3,451", line) for line in played]))
         for place in range(len(shown)):
             self.assertFalse(are_shown(shown, [*shown[:place], *shown[place + 1 :]]))
             self.assertFalse(are_shown(shown, [*shown[:place], "other", *shown[place:]]))
 
-    @unittest.skipUnless(has_tools(), "yosys or a solver is not installed")
+    @unittest.skipUnless(has_tools(), "yosys, a solver or a C++ compiler is not installed")
     def test_sessions(self) -> None:
         self.assertEqual({page: len(sessions(page)) for page in PAGES}, PAGES)
         for command, shown in (it for page in PAGES for it in sessions(page).items()):

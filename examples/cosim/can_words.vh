@@ -8,17 +8,17 @@
 `define RECESSIVE 1'b1
 
 // phases
-`define JOINING 4'd0
-`define IDLE 4'd1
+`define IDLE 4'd0
+`define JOINING 4'd1
 `define STUFFED_PART 4'd2
 `define CRC_DELIMITER 4'd3
 `define ACK_SLOT 4'd4
 `define ACK_DELIMITER 4'd5
 `define END_OF_FRAME 4'd6
-`define ACTIVE_FLAG 4'd7
+`define ERROR_FLAG 4'd7
 `define PASSIVE_FLAG 4'd8
 `define OVERLOAD_FLAG 4'd9
-`define BEHIND_FLAG 4'd10
+`define AFTER_FLAG 4'd10
 `define DELIMITER 4'd11
 `define INTERMISSION 4'd12
 `define SUSPEND 4'd13

@@ -59,7 +59,7 @@ class Traffic:
     def _flag_left(self) -> int:
         """The rest of the error or overload frame after the last event, and two levels of intermission."""
         events = self._scene.events
-        if not events or not events[-1][1].startswith(("error", "overload")):
+        if not events or not events[-1][1].endswith((" error", "overload")):
             return 0
         return max(0, events[-1][0] + 1 + FLAG_LEVELS - self._scene.time)
 

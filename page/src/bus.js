@@ -19,12 +19,12 @@ const MOST_PORT_TIMES = 8000000;
 const MOST_SHOWN = 100000;
 
 /** How often, in milliseconds, the bit time is shown again while ports come. */
-const TOLD_EACH = 200;
+const SHOWN_EACH = 200;
 
 const LEVEL_WORDS = ['dominant', 'recessive'];
 
 /** The names of the columns of the ports in a bit time. */
-const COLUMNS = ['Phase', 'Part', 'Drives', 'Sees', 'TEC', 'REC', 'Event'];
+const COLUMNS = ['Phase', 'Role', 'Drives', 'Sees', 'TEC', 'REC', 'Event'];
 
 export class BusView extends DocumentView {
   /**
@@ -105,12 +105,12 @@ export class BusView extends DocumentView {
   /** @param {Uint8Array} bytes the scenario */
   async answer(bytes) {
     const began = performance.now();
-    const told = await this.runs.report(bytes);
+    const reported = await this.runs.report(bytes);
     const took = performance.now() - began;
-    if (!told || !(await this.isFilled())) return;
-    if (told.answer === ANSWER.badScenario) this.refuseField(told.wrong);
-    else if (told.answer !== ANSWER.done) this.refuseForMemory();
-    else await this.show(bytes, new Report(told.report, told.index), took);
+    if (!reported || !(await this.isFilled())) return;
+    if (reported.answer === ANSWER.badScenario) this.refuseField(reported.wrong);
+    else if (reported.answer !== ANSWER.done) this.refuseForMemory();
+    else await this.show(bytes, new Report(reported.report, reported.index), took);
   }
 
   /**
@@ -127,7 +127,7 @@ export class BusView extends DocumentView {
     this.bus = bus;
     byId('bus-shown').hidden = false;
     byId('bus-drawn').hidden = !bus?.count;
-    this.tellWhole(took);
+    this.reportWhole(took);
     byId('bus-worst').textContent = this.worst ? worstCaseWords(this.worst, null) : '';
     byId('bus-report').textContent = report.bytes.length > MOST_SHOWN
       ? `${new TextDecoder().decode(report.bytes.subarray(0, MOST_SHOWN))}\n(So far ${MOST_SHOWN.toLocaleString('en')} of ${counted(report.bytes.length, 'byte')}; the whole report is in the download.)` : report.text;
@@ -135,9 +135,9 @@ export class BusView extends DocumentView {
     this.picture.show(bus);
     this.enter('reported');
     this.begin();
-    if (bus?.count && !(await this.runs.ports(bytes, report.levels, report.ports, () => this.nextPort(bus), (node, told) => this.put(bus, node, told)))) return;
+    if (bus?.count && !(await this.runs.ports(bytes, report.levels, report.ports, () => this.nextPort(bus), (node, reported) => this.put(bus, node, reported)))) return;
     if (this.bus !== bus) return;
-    if (bus?.count) this.tellTime();
+    if (bus?.count) this.reportTime();
     this.enter('shown');
   }
 
@@ -162,7 +162,7 @@ export class BusView extends DocumentView {
     bus.put(node, new PortTimes(times, index));
     this.ends.refresh(node);
     this.picture.come(node);
-    this.tellSoon();
+    this.reportSoon();
     if (node === this.worst?.port) this.goToLatest();
   }
 
@@ -178,10 +178,10 @@ export class BusView extends DocumentView {
   }
 
   /** @param {number} took in milliseconds */
-  tellWhole(took) {
-    const untold = this.bus === null ? ' The picture would be too large for this page; the report is whole.' : '';
-    byId('bus-told').textContent = `${counted(this.report.levels.length, 'bit time')} of ${counted(this.report.ports, 'port')}, run in ${Math.ceil(took)} ms.${untold}`;
-    byId('bus-told').dataset.took = String(took);
+  reportWhole(took) {
+    const undrawn = this.bus === null ? ' The picture would be too large for this page; the report is whole.' : '';
+    byId('bus-reported').textContent = `${counted(this.report.levels.length, 'bit time')} of ${counted(this.report.ports, 'port')}, run in ${Math.ceil(took)} ms.${undrawn}`;
+    byId('bus-reported').dataset.took = String(took);
   }
 
   /** Shows one bit time of all ports. @param {number} time */
@@ -191,7 +191,7 @@ export class BusView extends DocumentView {
     this.picture.pick(this.picked);
     byId('bus-back').disabled = this.picked === 0;
     byId('bus-on').disabled = this.picked === this.bus.count - 1;
-    this.tellTime();
+    this.reportTime();
   }
 
   /** Goes to an entry of a log. */
@@ -203,16 +203,16 @@ export class BusView extends DocumentView {
   }
 
   /** Shows the picked bit time again as ports come: at once if all are there, otherwise now and then. */
-  tellSoon() {
+  reportSoon() {
     if (this.waits) return;
     this.waits = true;
     setTimeout(() => {
       this.waits = false;
-      if (this.bus?.count) this.tellTime();
-    }, this.bus.awaited > 0 ? TOLD_EACH : 0);
+      if (this.bus?.count) this.reportTime();
+    }, this.bus.awaited > 0 ? SHOWN_EACH : 0);
   }
 
-  tellTime() {
+  reportTime() {
     const level = LEVEL_WORDS[this.bus.levels[this.picked]];
     const hit = this.bus.isHit(this.picked) ? ', disturbed' : '';
     const events = this.bus.ports.flatMap((port, node) => (port && comesTo(port, this.picked) ? [`port ${node}: ${comesTo(port, this.picked)}`] : []));

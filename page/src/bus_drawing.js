@@ -177,15 +177,15 @@ export function arrows(scale, times, y, name) {
 
 /** The counters at the left, and their changes: of changes without space only the last, after the one before it. */
 export function counters(scale, port, y) {
-  const told = [];
+  const labels = [];
   let free = 0;
   const start = Math.min(Math.floor(scale.from), port.count - 1);
-  if (start < 0) return told;
+  if (start < 0) return labels;
   const words = (time) => `TEC ${port.transmit(time)} REC ${port.receive(time)}`;
   const room = (time) => words(time).length * 6.8 + 8;
   const put = (time, x) => {
     free = x + room(time);
-    told.push(svg('text', { class: 'place count', x: x + 2, y }, [words(time)]));
+    labels.push(svg('text', { class: 'place count', x: x + 2, y }, [words(time)]));
   };
   const next = firstFrom(port.moves, start + 1);
   let waits = null;
@@ -199,7 +199,7 @@ export function counters(scale, port, y) {
     } else waits = time;
   }
   if (waits !== null && free < scale.width - 60) put(waits, free);
-  return told;
+  return labels;
 }
 
 /** Lines at round bit times, and their numbers. */

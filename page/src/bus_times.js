@@ -11,9 +11,9 @@ const RECEIVING = DOES.indexOf('receiving');
 const FIRST_IN_FRAME = 2;
 const LAST_IN_FRAME = 6;
 
-/** What a port does, as the place in DOES, by the number of its phase; in a frame its part decides. */
+/** What a port does, as the place in DOES, by the number of its phase; in a frame its role decides. */
 const KINDS = Uint8Array.from(
-  ['joining', 'idle', '', '', '', '', '', 'flag', 'passive', 'overload', 'delimiter', 'delimiter', 'intermission', 'suspend', 'off'], (name) => DOES.indexOf(name),
+  ['idle', 'joining', '', '', '', '', '', 'flag', 'passive', 'overload', 'delimiter', 'delimiter', 'intermission', 'suspend', 'off'], (name) => DOES.indexOf(name),
 );
 
 /** The numbers of the events of a bit time. */

@@ -17,7 +17,7 @@ export const DOES_WORDS = Object.freeze({
 
 /** By the numbers of phases. */
 export const STAGES = Object.freeze([
-  'joining', 'idle', 'stuffed part of a frame', 'CRC delimiter', 'ACK slot', 'ACK delimiter', 'end of frame', 'active error flag', 'passive error flag',
+  'idle', 'joining', 'stuffed part of a frame', 'CRC delimiter', 'ACK slot', 'ACK delimiter', 'end of frame', 'active error flag', 'passive error flag',
   'overload flag', 'after a flag', 'delimiter', 'intermission', 'suspend transmission', 'bus off',
 ]);
 

@@ -126,7 +126,7 @@ export class DecodeView {
     }
     const findings = new Findings(lines);
     this.lines = lines;
-    this.tellWhole(levels, findings, performance.now() - began);
+    this.reportWhole(levels, findings, performance.now() - began);
     byId('trace-fault').replaceChildren(...(answer === ANSWER.done ? [] : badByte(bytes, place)));
     this.typed.setAttribute('aria-invalid', String(answer !== ANSWER.done));
     this.traced = { levels, findings, endOf: this.endsOf(levels, findings) };
@@ -160,7 +160,7 @@ export class DecodeView {
   /** @param {string} why nothing is shown */
   clear(why) {
     byId('trace-fault').textContent = why;
-    byId('decode-told').textContent = '';
+    byId('decode-reported').textContent = '';
     byId('decode-shown').hidden = true;
     this.typed.setAttribute('aria-invalid', 'true');
     this.traced = null;
@@ -175,12 +175,12 @@ export class DecodeView {
    * @param {Findings} findings
    * @param {number} took in milliseconds
    */
-  tellWhole(levels, findings, took) {
-    const told = byId('decode-told');
-    told.textContent = `${counted(findings.count - findings.faults, 'frame')} and ${counted(findings.faults, 'fault')} in ${counted(levels.length, 'level')}, decoded in ${Math.ceil(took)} ms.`;
-    told.dataset.took = String(took);
+  reportWhole(levels, findings, took) {
+    const line = byId('decode-reported');
+    line.textContent = `${counted(findings.count - findings.faults, 'frame')} and ${counted(findings.faults, 'fault')} in ${counted(levels.length, 'level')}, decoded in ${Math.ceil(took)} ms.`;
+    line.dataset.took = String(took);
     this.answers += 1;
-    told.dataset.answers = String(this.answers);
+    line.dataset.answers = String(this.answers);
   }
 
   /**
@@ -264,7 +264,7 @@ export class DecodeView {
     const rows = [];
     for (let line = first; line < last; line += 1) rows.push(this.listRow(line, findings.at(line)));
     byId('found-list').replaceChildren(...rows);
-    byId('page-told').textContent = last > 0 ? `${(first + 1).toLocaleString('en')} to ${last.toLocaleString('en')} of ${findings.count.toLocaleString('en')}` : '';
+    byId('page-reported').textContent = last > 0 ? `${(first + 1).toLocaleString('en')} to ${last.toLocaleString('en')} of ${findings.count.toLocaleString('en')}` : '';
   }
 
   /**
@@ -307,10 +307,10 @@ function foundWords(found) {
 function wireOf(core, levels, found, end) {
   const shown = levels.slice(found.start, found.fault ? end + BEHIND : end);
   const { fields, stuffed } = core.marks(shown);
-  const told = found.fault ? found.place + 1 - found.start : shown.length;
+  const known = found.fault ? found.place + 1 - found.start : shown.length;
   return {
     id: 'heard', name: found.fault ? `Levels from ${found.start} on, with a fault at ${found.place}` : `Levels of ${found.frame}`, levels: shown,
-    fields: fields.subarray(0, told), stuffed: stuffed.subarray(0, told), first: found.start, fault: found.fault ? found.place - found.start : null,
+    fields: fields.subarray(0, known), stuffed: stuffed.subarray(0, known), first: found.start, fault: found.fault ? found.place - found.start : null,
   };
 }
 

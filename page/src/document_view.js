@@ -97,15 +97,15 @@ export class DocumentView {
 
   /**
    * @param {Array<Node | string>} why nothing is shown
-   * @param {string} [told] the same, shorter
+   * @param {string} [status] the same, shorter
    */
-  refuse(why, told = '') {
+  refuse(why, status = '') {
     this.runs.number += 1;
     byId(`${this.of.view}-fault`).replaceChildren(...why);
     this.document.mark(true);
     this.box.value = '';
     byId(`${this.of.view}-shown`).hidden = true;
-    byId(`${this.of.view}-told`).textContent = told;
+    byId(`${this.of.view}-reported`).textContent = status;
     this.forget();
     this.enter('refused');
   }

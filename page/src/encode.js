@@ -105,7 +105,7 @@ export class EncodeView {
     this.levels = levels.join('');
     this.box.value = EXAMPLES.includes(this.text.value) ? this.text.value : '';
     this.setFault([]);
-    byId('encode-told').textContent = `${counted(levels.length, 'level')}, ${counted(stuffed.reduce((sum, flag) => sum + flag, 0), 'stuff bit')} included.`;
+    byId('encode-reported').textContent = `${counted(levels.length, 'level')}, ${counted(stuffed.reduce((sum, flag) => sum + flag, 0), 'stuff bit')} included.`;
     this.wires.show({ id: 'sent', name: `Levels of ${this.text.value}`, levels, fields, stuffed, first: 0, fault: null });
     byId('encode-shown').hidden = false;
     this.wires.draw();
@@ -120,7 +120,7 @@ export class EncodeView {
     this.levels = '';
     this.box.value = '';
     this.setFault(why, field);
-    byId('encode-told').textContent = '';
+    byId('encode-reported').textContent = '';
     byId('encode-shown').hidden = true;
     this.wires.show(null);
   }

@@ -29,7 +29,7 @@ export class NetworkView extends DocumentView {
     /** @type {import('./network_answer.js').Answer | null} */
     this.answered = null;
     this.form = new NetworkForm(() => this.take(textOf(this.form.form), { fills: false }));
-    this.bounds = new BoundsView((verdict, tell) => this.askWorst(verdict, tell), (verdict, show) => this.askMakings(verdict, show));
+    this.bounds = new BoundsView((verdict, refuse) => this.askWorst(verdict, refuse), (verdict, show) => this.askMakings(verdict, show));
     this.listen();
     this.showExample('seventeen');
   }
@@ -51,14 +51,14 @@ export class NetworkView extends DocumentView {
   /** @param {Uint8Array} bytes the network */
   async answer(bytes) {
     const began = performance.now();
-    const told = await this.runs.plan(bytes);
+    const reported = await this.runs.plan(bytes);
     const took = performance.now() - began;
-    if (!told || !(await this.isFilled())) return;
-    if (told.answer === ANSWER.badPlan) this.refuseField(told.wrong);
-    else if (told.answer !== ANSWER.done) this.refuseForMemory();
+    if (!reported || !(await this.isFilled())) return;
+    if (reported.answer === ANSWER.badPlan) this.refuseField(reported.wrong);
+    else if (reported.answer !== ANSWER.done) this.refuseForMemory();
     else {
-      this.show(answerOf(told.lines), told.late, took);
-      if (told.late === 0) await this.showLeft(bytes);
+      this.show(answerOf(reported.lines), reported.late, took);
+      if (reported.late === 0) await this.showLeft(bytes);
     }
   }
 
@@ -72,7 +72,7 @@ export class NetworkView extends DocumentView {
     this.answered = answer;
     const { verdicts, load, borne, text } = answer;
     const deadlines = late === 0 ? 'all deadlines are met' : `${late.toLocaleString('en')} of ${counted(verdicts.length, 'message')} late: deadlines may be missed`;
-    byId('network-told').textContent = `Load ${load}, ${deadlines}. Answered in ${Math.ceil(took)} ms.`;
+    byId('network-reported').textContent = `Load ${load}, ${deadlines}. Answered in ${Math.ceil(took)} ms.`;
     byId('network-borne').textContent = borneWords(borne);
     byId('network-left').replaceChildren();
     byId('network-answer').textContent = text;
@@ -84,8 +84,8 @@ export class NetworkView extends DocumentView {
   /** Shows the margins of a network that is shown. @param {Uint8Array} bytes the network */
   async showLeft(bytes) {
     try {
-      const told = await this.runs.left(bytes);
-      if (told?.answer === ANSWER.done) byId('network-left').replaceChildren(...leftItems(told.margins, Number(formOf(this.document.text)?.burst ?? 0)));
+      const reported = await this.runs.left(bytes);
+      if (reported?.answer === ANSWER.done) byId('network-left').replaceChildren(...leftItems(reported.margins, Number(formOf(this.document.text)?.burst ?? 0)));
     } catch (error) {
       byId('network-left').replaceChildren(html('li', {}, [`This browser could not compute the margins (${error.message}). The program canplan can.`]));
     }
@@ -101,9 +101,9 @@ export class NetworkView extends DocumentView {
     await this.ran;
     if (!this.answered) return;
     try {
-      const told = await this.runs.worstCase(this.document.bytes, new TextEncoder().encode(nameOf(verdict.frame)));
-      if (told?.answer === ANSWER.done) this.onWorst(worstCaseOf(new TextDecoder().decode(told.scenario), verdict, this.answered.borne !== ''));
-      else if (told) refuse(worstCaseRefusal(told.answer));
+      const reported = await this.runs.worstCase(this.document.bytes, new TextEncoder().encode(nameOf(verdict.frame)));
+      if (reported?.answer === ANSWER.done) this.onWorst(worstCaseOf(new TextDecoder().decode(reported.scenario), verdict, this.answered.borne !== ''));
+      else if (reported) refuse(worstCaseRefusal(reported.answer));
     } catch (error) {
       refuse(`This browser could not write the worst case (${error.message}). The program canplan can.`);
     }
@@ -118,9 +118,9 @@ export class NetworkView extends DocumentView {
     await this.ran;
     if (!this.answered) return;
     try {
-      const told = await this.runs.makings(this.document.bytes, verdict.frame);
-      if (told?.answer === ANSWER.done) show(makingsView(verdict, makingsOf(told.lines)));
-      else if (told) show(new Text('This needs more memory than this page has. The program canplan has no such limit.'));
+      const reported = await this.runs.makings(this.document.bytes, verdict.frame);
+      if (reported?.answer === ANSWER.done) show(makingsView(verdict, makingsOf(reported.lines)));
+      else if (reported) show(new Text('This needs more memory than this page has. The program canplan has no such limit.'));
     } catch (error) {
       show(new Text(`This browser could not compute the parts (${error.message}). The program canplan can.`));
     }

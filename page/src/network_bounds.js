@@ -19,7 +19,7 @@ const COLUMNS = ['Longest', 'Blocking', 'Bound', 'Deadline', 'Outcome'];
 
 export class BoundsView {
   /**
-   * @param {(verdict: Verdict, tell: (why: string) => void) => void} onWorst gets a message whose worst case is asked for; `tell` shows why there is none
+   * @param {(verdict: Verdict, refuse: (why: string) => void) => void} onWorst gets a message whose worst case is asked for; `refuse` shows why there is none
    * @param {(verdict: Verdict, show: (view: Node) => void) => void} onMakings gets a message whose parts of the bound are asked for; `show` shows them
    */
   constructor(onWorst, onMakings) {
@@ -46,8 +46,8 @@ export class BoundsView {
 function rowOf(verdict, place) {
   const { frame, longest, blocking, bound, deadline, slack, name } = verdict;
   const isLate = slack === null;
-  const outcome = isLate ? html('strong', { class: 'fault-name' }, ['▲ late']) : `ok, slack ${told(slack)}`;
-  const cells = [told(longest), told(blocking), bound === null ? 'none' : told(bound), told(deadline), outcome];
+  const outcome = isLate ? html('strong', { class: 'fault-name' }, ['▲ late']) : `ok, slack ${shown(slack)}`;
+  const cells = [shown(longest), shown(blocking), bound === null ? 'none' : shown(bound), shown(deadline), outcome];
   return html('tr', isLate ? { class: 'late' } : {}, [
     html('th', { scope: 'row', class: 'mono' }, name === '' ? [frame] : [frame, html('div', { class: 'called' }, [name])]),
     ...cells.map((cell, column) => html('td', { 'data-name': COLUMNS[column], class: column < 4 ? 'number' : 'outcome' }, [cell])),
@@ -79,7 +79,7 @@ function toggle(button, fill) {
 }
 
 /** @param {number} time */
-const told = (time) => time.toLocaleString('en');
+const shown = (time) => time.toLocaleString('en');
 
 /**
  * A bar as long as the bound, against the deadline, which is at the same place in all bars. What exceeds it is hatched, and

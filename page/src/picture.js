@@ -168,7 +168,7 @@ function levelCell(wire, index, start) {
   const known = index < wire.fields.length;
   const place = wire.first + index;
   const parts = [
-    svg('rect', { class: `cell ${known ? `field field-${wire.fields[index]} pale` : 'untold'}`, x, y: LABEL, width: CELL, height: DIGIT - LABEL + 5 }),
+    svg('rect', { class: `cell ${known ? `field field-${wire.fields[index]} pale` : 'unknown'}`, x, y: LABEL, width: CELL, height: DIGIT - LABEL + 5 }),
     svg('text', { class: 'digit', x: x + CELL / 2, y: DIGIT, 'text-anchor': 'middle' }, [String(wire.levels[index] ?? '…')]),
   ];
   if (known && wire.stuffed[index]) {

@@ -101,9 +101,9 @@ export class Runs {
     this.number += 1;
     const { number } = this;
     this.drop();
-    const told = await this.runners[0].ask(asked);
-    if (told.failed) this.end(this.runners[0], told);
-    return number === this.number ? told : null;
+    const reported = await this.runners[0].ask(asked);
+    if (reported.failed) this.end(this.runners[0], reported);
+    return number === this.number ? reported : null;
   }
 
   /**
@@ -112,16 +112,16 @@ export class Runs {
    * @param {Uint8Array} levels those that are recorded
    * @param {number} count of ports
    * @param {() => number | undefined} next the port that is asked for next
-   * @param {(node: number, told: {times: Uint8Array, index: object}) => void} onPort
+   * @param {(node: number, reported: {times: Uint8Array, index: object}) => void} onPort
    * @returns {Promise<boolean>} whether no other text came in the meantime
    */
   async ports(text, levels, count, next, onPort) {
     const { number } = this;
     if (count * levels.length <= MOST_TIMES) {
       const [runner] = this.runners;
-      const told = await runner.ask({ ask: 'ports', text, levels });
+      const reported = await runner.ask({ ask: 'ports', text, levels });
       if (number !== this.number) return false;
-      if (told.answer === ANSWER.done) return this.hand(told.ports, next, onPort);
+      if (reported.answer === ANSWER.done) return this.hand(reported.ports, next, onPort);
       // there may be memory for one at a time
       this.runners = this.runners.filter((other) => other !== runner);
       runner.end();
@@ -147,15 +147,15 @@ export class Runs {
     const left = [];
     const work = async (runner, nextNode) => {
       for (let node = nextNode(); node !== undefined && number === this.number; node = nextNode()) {
-        const told = await runner.ask({ ask: 'port', text, node, levels });
+        const reported = await runner.ask({ ask: 'port', text, node, levels });
         if (number !== this.number) return;
-        if (told.answer !== ANSWER.done) {
+        if (reported.answer !== ANSWER.done) {
           // a browser may have memory for fewer workers
           left.push(node);
-          this.end(runner, told);
+          this.end(runner, reported);
           return;
         }
-        onPort(node, told);
+        onPort(node, reported);
       }
     };
     await Promise.all(this.runners.map((runner) => work(runner, next)));

@@ -11,13 +11,13 @@ import { TEXT_FAULTS } from './words.js';
  */
 export function textFault(bytes, answer, place) {
   const { code, wrong, expected } = TEXT_FAULTS[answer];
-  const told = (from, to) => new TextDecoder().decode(bytes.subarray(from, to));
+  const textOf = (from, to) => new TextDecoder().decode(bytes.subarray(from, to));
   // a character may have more than one byte
   let end = place + 1;
   while (end < bytes.length && (bytes[end] & 0xc0) === 0x80) end += 1;
-  const at = place < bytes.length ? html('mark', {}, [told(place, end).replace(' ', '␣')]) : html('mark', { class: 'end' }, ['end']);
+  const at = place < bytes.length ? html('mark', {}, [textOf(place, end).replace(' ', '␣')]) : html('mark', { class: 'end' }, ['end']);
   return [
     html('strong', {}, [`${code} at ${place}`]), `: wrong in ${wrong}: ${expected}. `,
-    html('code', { class: 'excerpt' }, [told(0, place), at, told(end, end + 24)]),
+    html('code', { class: 'excerpt' }, [textOf(0, place), at, textOf(end, end + 24)]),
   ];
 }

@@ -13,30 +13,30 @@ const buffersOf = (index) => Object.values(index).map((list) => list.buffer);
 
 /**
  * The answers to what the page asks, and what of them is handed over rather than copied.
- * @type {Readonly<Record<string, (core: Core, asked: object) => {told: object, handed: ArrayBuffer[]}>>}
+ * @type {Readonly<Record<string, (core: Core, asked: object) => {reported: object, handed: ArrayBuffer[]}>>}
  */
 const ANSWERS = Object.freeze({
   report: (code, { text }) => {
-    const told = code.run(text);
-    if (told.answer !== ANSWER.done) return { told, handed: [] };
-    const index = indexReport(told.report);
-    return { told: { ...told, index }, handed: [told.report.buffer, ...buffersOf(index)] };
+    const reported = code.run(text);
+    if (reported.answer !== ANSWER.done) return { reported, handed: [] };
+    const index = indexReport(reported.report);
+    return { reported: { ...reported, index }, handed: [reported.report.buffer, ...buffersOf(index)] };
   },
   plan: (code, { text }) => {
-    const told = code.plan(text);
-    return { told, handed: [told.lines.buffer] };
+    const reported = code.plan(text);
+    return { reported, handed: [reported.lines.buffer] };
   },
   makings: (code, { text, frame }) => {
     const { answer, lines } = code.plan(text, true);
-    return { told: { answer, lines: linesBelow(new TextDecoder().decode(lines), frame) }, handed: [] };
+    return { reported: { answer, lines: linesBelow(new TextDecoder().decode(lines), frame) }, handed: [] };
   },
   left: (code, { text }) => {
     const { answer, lines } = code.plan(text, true);
-    return { told: { answer, margins: marginsOf(new TextDecoder().decode(lines)) }, handed: [] };
+    return { reported: { answer, margins: marginsOf(new TextDecoder().decode(lines)) }, handed: [] };
   },
   worstCase: (code, { text, name }) => {
-    const told = code.worstCase(text, name);
-    return { told, handed: [told.scenario.buffer] };
+    const reported = code.worstCase(text, name);
+    return { reported, handed: [reported.scenario.buffer] };
   },
   ports: (code, { text, levels }) => {
     const { answer, times } = code.allPortTimes(text);
@@ -46,13 +46,13 @@ const ANSWERS = Object.freeze({
       const own = times.slice(at, at + bytes);
       ports.push({ times: own, index: indexOf(own, levels) });
     }
-    return { told: { answer, ports }, handed: ports.flatMap((port) => [port.times.buffer, ...buffersOf(port.index)]) };
+    return { reported: { answer, ports }, handed: ports.flatMap((port) => [port.times.buffer, ...buffersOf(port.index)]) };
   },
   port: (code, { text, node, levels }) => {
     const { answer, times } = code.portTimes(text, node);
-    if (answer !== ANSWER.done) return { told: { answer }, handed: [] };
+    if (answer !== ANSWER.done) return { reported: { answer }, handed: [] };
     const index = indexOf(times, levels);
-    return { told: { answer, times, index }, handed: [times.buffer, ...buffersOf(index)] };
+    return { reported: { answer, times, index }, handed: [times.buffer, ...buffersOf(index)] };
   },
 });
 
@@ -60,8 +60,8 @@ globalThis.onmessage = async ({ data }) => {
   try {
     core ??= Core.load(data.module);
     if (!data.ask) return;
-    const { told, handed } = ANSWERS[data.ask](await core, data);
-    globalThis.postMessage(told, handed);
+    const { reported, handed } = ANSWERS[data.ask](await core, data);
+    globalThis.postMessage(reported, handed);
   } catch (error) {
     if (data.ask) globalThis.postMessage({ failed: error.message });
   }

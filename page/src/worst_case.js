@@ -58,9 +58,9 @@ export function worstCaseWords({ frame, bound, isHit, port }, latest) {
   const whole = `The worst case of ${frame} without hits`;
   if (latest === null) return `${whole}.`;
   const { offer, end, wait } = latest;
-  const bounded = wait === bound ? ', which is its bound.' : `. Its bound, ${told(bound)}, also counts ${isHit ? 'its jitter and hits' : 'its jitter'}.`;
-  return `${whole}: its latest frame, of port ${port}, is offered before bit time ${told(offer)} and ends with bit time ${told(end - 1)}, ${told(wait)} bit times after its offer${bounded}`;
+  const bounded = wait === bound ? ', which is its bound.' : `. Its bound, ${shown(bound)}, also counts ${isHit ? 'its jitter and hits' : 'its jitter'}.`;
+  return `${whole}: its latest frame, of port ${port}, is offered before bit time ${shown(offer)} and ends with bit time ${shown(end - 1)}, ${shown(wait)} bit times after its offer${bounded}`;
 }
 
 /** @param {number} time */
-const told = (time) => time.toLocaleString('en');
+const shown = (time) => time.toLocaleString('en');

@@ -41,10 +41,10 @@ export const busTests = [
     const page = await shown(open);
     for (const name of named(folder, '.toml')) {
       await fill(page, 'bus-text', readFileSync(join(folder, name), 'utf8'));
-      const told = await fault(page);
+      const reported = await fault(page);
       const want = readFileSync(join(folder, name.replace('.toml', '.fault')), 'utf8').trim().replace('canbit: ', '');
-      assert.ok(told.text.startsWith(want), `${name}: ${told.text}`);
-      assert.equal(told.shown, false);
+      assert.ok(reported.text.startsWith(want), `${name}: ${reported.text}`);
+      assert.equal(reported.shown, false);
     }
   }],
   ['arbitration is shown as computed by hand', async ({ open }) => {
@@ -121,7 +121,7 @@ export const busTests = [
     const page = await shown(open, 'version = 1\nbits = 0\n[[port]]\n');
     assert.equal(await report(page), 'bits 0\n\nport 0 active tec 0 rec 0 missed 0\n');
     await fill(page, 'bus-text', `version = 1\nbits = 1000000\n${'[[port]]\n'.repeat(9)}`);
-    assert.match(await page.get("document.getElementById('bus-told').textContent"), /picture would be too large/);
+    assert.match(await page.get("document.getElementById('bus-reported').textContent"), /picture would be too large/);
     assert.equal((await report(page)).length, 'bits 1000000\n'.length + 1000001 + 9 * 'port 0 active tec 0 rec 0 missed 0\n'.length);
   }],
 ];

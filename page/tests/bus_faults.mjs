@@ -56,12 +56,12 @@ export const busFaultTests = [
     const page = await shown(open);
     for (const [text, code, place, fields] of WRONG) {
       await fill(page, 'bus-text', text);
-      const told = await fault(page);
+      const reported = await fault(page);
       const where = place ? ` (line ${place[0]}, column ${place[1]})` : '';
-      assert.ok(told.text.startsWith(`P2 ${code}${where}: `), `${text}: ${told.text}`);
-      assert.equal(told.shown, false);
-      assert.deepEqual(told.invalid.filter((id) => id !== 'bus-text'), fields, text);
-      assert.equal(await page.get("document.getElementById('bus-told').textContent"), `The scenario is wrong: P2 ${code}${where}.`);
+      assert.ok(reported.text.startsWith(`P2 ${code}${where}: `), `${text}: ${reported.text}`);
+      assert.equal(reported.shown, false);
+      assert.deepEqual(reported.invalid.filter((id) => id !== 'bus-text'), fields, text);
+      assert.equal(await page.get("document.getElementById('bus-reported').textContent"), `The scenario is wrong: P2 ${code}${where}.`);
     }
     await fill(page, 'bus-text', `version = 1\nbits = 8\n${PORTS}`);
     assert.deepEqual(await fault(page), { text: '', shown: true, invalid: [] });
@@ -70,9 +70,9 @@ export const busFaultTests = [
     const page = await shown(open);
     for (const [text, [line, column], words] of NO_TOML) {
       await fill(page, 'bus-text', text);
-      const told = await fault(page);
-      assert.ok(told.text.startsWith(`P2 toml (line ${line}, column ${column}): `), `${text}: ${told.text}`);
-      assert.match(told.text, words, text);
+      const reported = await fault(page);
+      assert.ok(reported.text.startsWith(`P2 toml (line ${line}, column ${column}): `), `${text}: ${reported.text}`);
+      assert.match(reported.text, words, text);
     }
     for (const text of TOML) {
       await fill(page, 'bus-text', text);
@@ -93,9 +93,9 @@ export const busFaultTests = [
     ];
     for (const [text, code, words] of rows) {
       await fill(page, 'bus-text', text);
-      const told = await fault(page);
-      assert.ok(told.text.startsWith(`P2 ${code} (line `), told.text);
-      assert.match(told.text, words, text);
+      const reported = await fault(page);
+      assert.ok(reported.text.startsWith(`P2 ${code} (line `), reported.text);
+      assert.match(reported.text, words, text);
     }
   }],
 ];

@@ -71,7 +71,7 @@ export const busSpeedTests = [
     console.log(`    answered in ${Math.round(reported)} ms, blocked for ${Math.round(longest)} ms`);
     within('the answer', reported, 2000);
     await settled(page);
-    assert.match(await page.get("document.getElementById('bus-told').textContent"), /^20,000 bit times of 2 ports/);
+    assert.match(await page.get("document.getElementById('bus-reported').textContent"), /^20,000 bit times of 2 ports/);
     assert.match(await page.get("document.getElementById('bus-name').textContent"), /too many for the field/);
   }],
 ];

@@ -130,14 +130,14 @@ export const busViewTests = [
   }],
   ['the next event goes through all of them, and the previous one back', async ({ open }) => {
     const page = await shown(open, `version = 1\nbits = 140\n${PAIR}`);
-    const told = [];
+    const reported = [];
     for (let step = 0; step < 4; step += 1) {
       await page.click('bus-next');
-      told.push(await page.get("document.getElementById('bus-time').textContent"));
+      reported.push(await page.get("document.getElementById('bus-time').textContent"));
     }
-    assert.match(told[0], /^Bit time 13: .*port 0: arbitration lost/);
-    assert.match(told[1], /^Bit time 4[89]: recessive; .*frame (sent|received)/);
-    assert.ok(told.some((words) => words.includes('port 1: frame sent')) && told.some((words) => words.includes('port 0: frame received')), told.join('\n'));
+    assert.match(reported[0], /^Bit time 13: .*port 0: arbitration lost/);
+    assert.match(reported[1], /^Bit time 4[89]: recessive; .*frame (sent|received)/);
+    assert.ok(reported.some((words) => words.includes('port 1: frame sent')) && reported.some((words) => words.includes('port 0: frame received')), reported.join('\n'));
     await page.run(() => document.getElementById('bus-picture').focus());
     for (let step = 0; step < 3; step += 1) await page.key('p');
     assert.equal(await time(page), 13);
@@ -197,7 +197,7 @@ export const busViewTests = [
     writeFileSync(join(work, 'saved.toml'), text);
     const page = await shown(open);
     await page.files('bus-file', [join(work, 'saved.toml')]);
-    await page.until("document.getElementById('bus-told').textContent.startsWith('61 bit times')");
+    await page.until("document.getElementById('bus-reported').textContent.startsWith('61 bit times')");
     await settled(page);
     const saved = await page.run(async () => {
       let blob;

@@ -67,7 +67,7 @@ queue = [
 log = 1
 `;
 
-/** What a call is given: a text, levels by their digits, bytes; room for so many bytes; a place for a number, or what is told. */
+/** What a call is given: a text, levels by their digits, bytes; room for so many bytes; a place for a number, or what is reported. */
 const text = (letters) => ({ bytes: [...letters].map((letter) => letter.charCodeAt(0)) });
 const levels = (digits) => ({ bytes: [...digits].map(Number) });
 const bytes = (...those) => ({ bytes: those });
@@ -132,7 +132,7 @@ const ROWS = [
     count: 50, 'fields 0': 0, 'fields 13': 1, 'fields 14': 3, 'fields 15': 5, 'fields 16': 7, 'fields 18': 8, 'fields 22': 10, 'fields 40': 11,
     'fields 41': 12, 'fields 42': 13, 'fields 43': 14, 'stuffed 4': 0, 'stuffed 5': 1, 'stuffed 17': 1, 'stuffed 49': 0,
   }],
-  // up to the data of `S 555 D 1 aa`, with a stuff bit in its DLC, and one level of its check sequence
+  // up to the data of `S 555 D 1 aa`, with a stuff bit in its DLC, and one level of its CRC sequence
   [...marks('01010101010100000101101010100'), 0, {
     count: 29, 'stuffed 16': 0, 'stuffed 17': 1, 'stuffed 18': 0, 'fields 12': 3, 'fields 17': 8, 'fields 19': 8, 'fields 20': 9, 'fields 27': 9, 'fields 28': 10,
   }],
@@ -156,7 +156,7 @@ const ROWS = [
   ].map(([document, field, place, element]) => [...run(document), 6, { 'wrong 16': field, 'wrong 0': place, 'wrong 8': element }]),
 
   [...portTimes(SCENARIO, 0, 60), 0, {
-    count: 60, [time(0, 'stage')]: 1, [time(0, 'sends')]: 0, [time(0, 'drove')]: 0, [time(0, 'saw')]: 0, [time(1, 'stage')]: 2, [time(1, 'sends')]: 1,
+    count: 60, [time(0, 'stage')]: 0, [time(0, 'sends')]: 0, [time(0, 'drove')]: 0, [time(0, 'saw')]: 0, [time(1, 'stage')]: 2, [time(1, 'sends')]: 1,
     // the ACK slot is left recessive, and seen dominant
     [time(41, 'stage')]: 4, [time(41, 'drove')]: 1, [time(41, 'saw')]: 0,
     [time(49, 'stage')]: 6, [time(49, 'brought')]: 1, [time(50, 'stage')]: 12, [time(49, 'transmit')]: 0, [time(49, 'receive')]: 0,
@@ -168,7 +168,7 @@ const ROWS = [
   [...allPortTimes(SCENARIO, 120), 0, {
     count: 120, [time(1, 'sends')]: 1, [time(41, 'drove')]: 1, [time(49, 'brought')]: 1,
     // the other port: it acknowledges, and has the frame a level sooner
-    [time(60, 'stage')]: 1, [time(60 + 1, 'sends')]: 0, [time(60 + 41, 'drove')]: 0, [time(60 + 48, 'brought')]: 2, [time(60 + 49, 'brought')]: 0,
+    [time(60, 'stage')]: 0, [time(60 + 1, 'sends')]: 0, [time(60 + 41, 'drove')]: 0, [time(60 + 48, 'brought')]: 2, [time(60 + 49, 'brought')]: 0,
   }],
   [...allPortTimes(SCENARIO, 119), 1, { count: 99 }],
   [...allPortTimes('bits = 1', 120), 6, { count: 99 }],

@@ -17,8 +17,8 @@ async function shown(open, text, how) {
   return page;
 }
 
-const told = (page) => page.run(() => ({
-  whole: document.getElementById('decode-told').textContent.replace(/, decoded in .*/, ''),
+const reported = (page) => page.run(() => ({
+  whole: document.getElementById('decode-reported').textContent.replace(/, decoded in .*/, ''),
   fault: document.getElementById('trace-fault').textContent,
   marked: document.querySelector('#trace-fault mark')?.textContent ?? '',
   words: document.getElementById('found-words').textContent,
@@ -26,7 +26,7 @@ const told = (page) => page.run(() => ({
 
 /** How long the last answer took, in milliseconds, and how many answers there were. */
 const answered = (page) => page.run(() => {
-  const { took, answers } = document.getElementById('decode-told').dataset;
+  const { took, answers } = document.getElementById('decode-reported').dataset;
   return { took: Number(took), answers: Number(answers) };
 });
 
@@ -73,7 +73,7 @@ export const decodeTests = [
     const wires = readFileSync(join(work, 'frames.txt.answer'), 'utf8').trim().split('\n');
     const page = await shown(open, wires.map((wire) => IDLE + wire).join('\n'));
     for (const [index, text] of texts.entries()) {
-      assert.match((await told(page)).words, new RegExp(`^${index + 1} of ${texts.length}: a frame at \\d+: ${text}, not acknowledged\\.$`));
+      assert.match((await reported(page)).words, new RegExp(`^${index + 1} of ${texts.length}: a frame at \\d+: ${text}, not acknowledged\\.$`));
       assert.equal((await picture(page, 'decode-wire')).digits, wires[index], text);
       await page.click('next-found');
     }
@@ -84,36 +84,36 @@ export const decodeTests = [
       await page.fill('trace-text', trace);
       assert.equal(await answer(page), `${line}\n`);
       assert.equal(await faultLevel(page), level, line);
-      assert.match((await told(page)).words, words, line);
+      assert.match((await reported(page)).words, words, line);
       assert.deepEqual(await page.get("[...document.querySelectorAll('#timeline .fault-mark')].map((mark) => mark.dataset.place)"), [line.split(' ').at(-1)], line);
     }
   }],
   ['a frame in a trace is drawn with its fields', async ({ open }) => {
     const page = await shown(open, IDLE + WIRE + IDLE);
-    assert.deepEqual(await told(page), { whole: '1 frame and 0 faults in 72 levels', fault: '', marked: '', words: '1 of 1: a frame at 11: S 000 D 0, not acknowledged.' });
+    assert.deepEqual(await reported(page), { whole: '1 frame and 0 faults in 72 levels', fault: '', marked: '', words: '1 of 1: a frame at 11: S 000 D 0, not acknowledged.' });
     const { digits, stuffed, numbers } = await picture(page, 'decode-wire');
     assert.deepEqual([digits, stuffed], [WIRE, '.....^.....^.....^.....^.....^.....^..............']);
     assert.deepEqual([numbers[0], numbers[4], numbers[5]], ['11', '15', '']);
   }],
   ['a byte that is no level is shown with its place', async ({ open }) => {
     const page = await shown(open, `${IDLE}${WIRE}11x1`);
-    assert.deepEqual(await told(page), {
+    assert.deepEqual(await reported(page), {
       whole: '1 frame and 0 faults in 63 levels', marked: 'x', words: '1 of 1: a frame at 11: S 000 D 0, not acknowledged.',
       fault: `Byte 63 is no level: 0, 1, a space or a line end was expected. ${(IDLE + WIRE).slice(39)}11x1 The text before it is shown.`,
     });
     await page.fill('trace-text', '2');
-    assert.match((await told(page)).fault, /^Byte 0 is no level/);
+    assert.match((await reported(page)).fault, /^Byte 0 is no level/);
     await page.fill('trace-text', '1 \t1');
-    assert.match((await told(page)).fault, /^Byte 2 is no level/);
+    assert.match((await reported(page)).fault, /^Byte 2 is no level/);
     await page.fill('trace-text', '0110é');
-    assert.match((await told(page)).fault, /^Byte 4 is no level/);
+    assert.match((await reported(page)).fault, /^Byte 4 is no level/);
     assert.equal(await page.get("document.getElementById('trace-text').getAttribute('aria-invalid')"), 'true');
   }],
   ['a trace without frames says so', async ({ open }) => {
     const page = await shown(open, '');
-    assert.deepEqual(await told(page), { whole: '0 frames and 0 faults in 0 levels', fault: '', marked: '', words: 'There is no frame and no fault in the trace.' });
+    assert.deepEqual(await reported(page), { whole: '0 frames and 0 faults in 0 levels', fault: '', marked: '', words: 'There is no frame and no fault in the trace.' });
     await page.fill('trace-text', '1111\n1111');
-    assert.equal((await told(page)).whole, '0 frames and 0 faults in 8 levels');
+    assert.equal((await reported(page)).whole, '0 frames and 0 faults in 8 levels');
     assert.deepEqual(await page.get("['previous-found', 'next-found', 'next-fault', 'answer-download'].map((id) => document.getElementById(id).disabled)"), [true, true, true, true]);
   }],
   ['each answer is counted, also one that takes as long as that before it', async ({ open }) => {
@@ -128,7 +128,7 @@ export const decodeTests = [
   ['a file of 10 MB is decoded within a second, as canbit does', async ({ open, work }) => {
     const page = await shown(open);
     await page.files('trace-file', [join(work, 'long.txt')]);
-    await page.until("document.getElementById('decode-told').textContent.includes(' in 9,480,122 levels')");
+    await page.until("document.getElementById('decode-reported').textContent.includes(' in 9,480,122 levels')");
     const lines = readFileSync(join(work, 'long.txt.answer'));
     const hash = await page.run(async () => {
       let blob;
@@ -146,7 +146,7 @@ export const decodeTests = [
       times.push(took);
       await page.files('trace-file', [join(work, 'long.txt')]);
       await page.run(() => document.getElementById('trace-file').dispatchEvent(new Event('change')));
-      await page.until(`document.getElementById('decode-told').dataset.answers !== '${answers}'`);
+      await page.until(`document.getElementById('decode-reported').dataset.answers !== '${answers}'`);
     }
     within('decoding', Math.min(...times), 1000);
     const drew = await page.run(() => {
@@ -161,18 +161,18 @@ export const decodeTests = [
     const page = await shown(open);
     await page.files('trace-file', [join(work, 'too_long.txt')]);
     await page.until("document.getElementById('trace-fault').textContent !== ''");
-    assert.match((await told(page)).fault, /^The trace is too long: this page takes up to 10,485,760 bytes/);
+    assert.match((await reported(page)).fault, /^The trace is too long: this page takes up to 10,485,760 bytes/);
     assert.equal(await page.get("document.getElementById('decode-shown').hidden"), true);
     await page.fill('trace-text', IDLE + WIRE);
-    assert.equal((await told(page)).fault, '');
+    assert.equal((await reported(page)).fault, '');
   }],
   ['there is space for the longest output', async ({ open, work }) => {
     // a stuff error each seventeen levels
     writeFileSync(join(work, 'faults.txt'), `000000${IDLE}`.repeat(Math.floor((10 * 1024 * 1024) / 17)));
     const page = await shown(open);
     await page.files('trace-file', [join(work, 'faults.txt')]);
-    await page.until("document.getElementById('decode-told').textContent.startsWith('0 frames and 616,809 faults')");
-    assert.equal((await told(page)).fault, '');
+    await page.until("document.getElementById('decode-reported').textContent.startsWith('0 frames and 616,809 faults')");
+    assert.equal((await reported(page)).fault, '');
   }],
   ['a dropped file is decoded', async ({ open }) => {
     const page = await shown(open);
@@ -182,7 +182,7 @@ export const decodeTests = [
       document.getElementById('trace-text').dispatchEvent(new DragEvent('drop', { bubbles: true, cancelable: true, dataTransfer: data }));
     }, IDLE + WIRE);
     await page.until("document.getElementById('trace-name').textContent.includes('dropped.txt')");
-    assert.equal((await told(page)).whole, '1 frame and 0 faults in 61 levels');
+    assert.equal((await reported(page)).whole, '1 frame and 0 faults in 61 levels');
   }],
   ['a long text that is pasted is decoded, and not put into the field', async ({ open }) => {
     const page = await shown(open);
@@ -191,7 +191,7 @@ export const decodeTests = [
       data.setData('text/plain', text.repeat(4000));
       document.getElementById('trace-text').dispatchEvent(new ClipboardEvent('paste', { bubbles: true, cancelable: true, clipboardData: data }));
     }, WIRE + IDLE);
-    assert.equal((await told(page)).whole, '4,000 frames and 0 faults in 244,000 levels');
+    assert.equal((await reported(page)).whole, '4,000 frames and 0 faults in 244,000 levels');
     assert.equal(await page.get("document.getElementById('trace-text').value"), '');
   }],
   ['the time line zooms and moves, by mouse and keys', async ({ open }) => {
@@ -213,7 +213,7 @@ export const decodeTests = [
     await page.call('Input.dispatchMouseEvent', { type: 'mouseWheel', x: box.x + box.width / 2, y: box.y + 40, deltaX: 0, deltaY: -100 });
     await page.until("document.querySelectorAll('#timeline [data-line]').length < 200");
     for (const type of ['mousePressed', 'mouseReleased']) await page.call('Input.dispatchMouseEvent', { type, x: box.x + box.width / 2, y: box.y + 40, button: 'left', clickCount: 1 });
-    assert.match((await told(page)).words, /^(99|100|101|102) of 200: a frame/);
+    assert.match((await reported(page)).words, /^(99|100|101|102) of 200: a frame/);
   }],
   ['the time line shows frames, faults and levels at their places', async ({ open }) => {
     // a frame from 11 to 60, and a stuff error that begins at 72 and shows at 77, in 100 levels
@@ -233,7 +233,7 @@ export const decodeTests = [
   }],
   ['findings are gone through one by one', async ({ open, examples }) => {
     const page = await shown(open, readFileSync(join(examples, 'trace.txt'), 'utf8'));
-    const words = async () => (await told(page)).words;
+    const words = async () => (await reported(page)).words;
     await page.click('next-fault');
     assert.match(await words(), /^3 of 5: no frame at 131\. Stuff error \(C3\) at 136\./);
     await page.click('next-found');

@@ -21,9 +21,9 @@ const picture = (page, room = 'encode-wire') => page.run((id) => {
 
 /** The fault that is shown, and the place that is marked. */
 const fault = (page) => page.run(() => {
-  const told = document.getElementById('encode-fault');
+  const reported = document.getElementById('encode-fault');
   return {
-    text: told.textContent, marked: told.querySelector('mark')?.textContent ?? '', invalid: [...document.querySelectorAll('[aria-invalid=true]')].map((field) => field.id),
+    text: reported.textContent, marked: reported.querySelector('mark')?.textContent ?? '', invalid: [...document.querySelectorAll('[aria-invalid=true]')].map((field) => field.id),
     shown: !document.getElementById('encode-shown').hidden,
   };
 });
@@ -92,9 +92,9 @@ export const encodeTests = [
     ];
     for (const [text, code, marked] of rows) {
       await page.fill('frame-text', text);
-      const told = await fault(page);
-      assert.ok(told.text.startsWith(`${code}:`), `${text}: ${told.text}`);
-      assert.deepEqual([told.marked, told.invalid, told.shown], [marked, ['frame-text'], false], text);
+      const reported = await fault(page);
+      assert.ok(reported.text.startsWith(`${code}:`), `${text}: ${reported.text}`);
+      assert.deepEqual([reported.marked, reported.invalid, reported.shown], [marked, ['frame-text'], false], text);
     }
     await page.fill('frame-text', `S${'x'.repeat(100000)}`);
     assert.match((await fault(page)).text, /^X1 at 1:/);
@@ -127,9 +127,9 @@ export const encodeTests = [
     for (const [id, value, where, words] of rows) {
       await page.fill('frame-text', 'S 123 D 2 aa55');
       await page.fill(id, value);
-      const told = await fault(page);
-      assert.match(told.text, words, value);
-      assert.deepEqual([told.invalid, told.shown], [[where], false], value);
+      const reported = await fault(page);
+      assert.match(reported.text, words, value);
+      assert.deepEqual([reported.invalid, reported.shown], [[where], false], value);
     }
   }],
   ['a level that is pointed at or focused is described with its rule', async ({ open }) => {
@@ -166,7 +166,7 @@ export const encodeTests = [
   ['the picture is downloaded as a file of its own', async ({ open }) => {
     const page = await open();
     await page.fill('frame-text', 'S 000 D 0');
-    const told = await page.run(async () => {
+    const reported = await page.run(async () => {
       let blob;
       URL.createObjectURL = (given) => { blob = given; return 'data:,'; };
       let name;
@@ -179,7 +179,7 @@ export const encodeTests = [
         texts: [...file.querySelectorAll('text')].every((label) => label.getAttribute('fill').startsWith('rgb') && label.getAttribute('font-size')), classes: text.includes('class='),
       };
     });
-    assert.deepEqual(told, { name: 'S_000_D_0.svg', type: 'image/svg+xml', root: 'svg', levels: 50, hatched: 6, texts: true, classes: false });
+    assert.deepEqual(reported, { name: 'S_000_D_0.svg', type: 'image/svg+xml', root: 'svg', levels: 50, hatched: 6, texts: true, classes: false });
   }],
   ['each example of the page is a frame', async ({ open }) => {
     const page = await open();

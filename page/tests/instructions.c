@@ -39,7 +39,7 @@ static _Alignas(64) union {
   uint64_t words[BYTES / 8];
   double fractions[BYTES / 8];
 } given;
-static _Alignas(64) uint64_t told[BYTES / 8];
+static _Alignas(64) uint64_t reported[BYTES / 8];
 static uint64_t state = 88172645463325252;
 
 static uint64_t chance(void)
@@ -82,7 +82,7 @@ static void make(int round)
 {
   for (int place = 0; place < BYTES / 8; place++) {
     given.words[place] = made();
-    told[place] = UINT64_C(0xa5a5a5a5a5a5a5a5);
+    reported[place] = UINT64_C(0xa5a5a5a5a5a5a5a5);
   }
   if (round % 5 == 0)
     given.words[1] = given.words[2];
@@ -100,8 +100,8 @@ void play(void)
   for (int form = 0; form < FORM_COUNT; form++) {
     for (int round = 0; round < ROUNDS; round++) {
       make(round);
-      forms[form]((uintptr_t)&given, (uintptr_t)told);
-      put(told, BYTES);
+      forms[form]((uintptr_t)&given, (uintptr_t)reported);
+      put(reported, BYTES);
     }
   }
 }

@@ -1,10 +1,10 @@
-// Runs instructions.c as a module of WebAssembly, and writes its output: instructions.mjs MODULE TOLD
+// Runs instructions.c as a module of WebAssembly, and writes its output: instructions.mjs MODULE OUTPUT
 import { readFileSync, writeFileSync } from 'node:fs';
 
-const [module, told] = process.argv.slice(2);
+const [module, output] = process.argv.slice(2);
 const parts = [];
 const { instance } = await WebAssembly.instantiate(readFileSync(module), {
   host: { put: (at, count) => parts.push(Buffer.from(instance.exports.memory.buffer.slice(at, at + count))) },
 });
 instance.exports.play();
-writeFileSync(told, Buffer.concat(parts));
+writeFileSync(output, Buffer.concat(parts));

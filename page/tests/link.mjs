@@ -57,7 +57,7 @@ export const linkTests = [
     const { other, address } = await followed(page, browser, 'network-link');
     assert.match(address, /#network&network=[\w-]+$/);
     await other.until(`document.getElementById('network-text').value === ${JSON.stringify(text)}`);
-    await other.until("document.getElementById('network-told').textContent.includes('1 of 1 message late')");
+    await other.until("document.getElementById('network-reported').textContent.includes('1 of 1 message late')");
     await other.close();
   }],
   ['the address follows the view, and is plain if the view is as it begins', async ({ open }) => {

@@ -1,7 +1,7 @@
 /*
  * The calls of crates/can_page as rt makes them for this machine, for what holds the page's module against them
  * (module.mjs). It reads questions: a call by its number, four numbers, and bytes with their count; and writes answers:
- * the bytes of what a call answers and tells, with their count. Numbers have 32 bits, those within answers 64, the
+ * the bytes of what a call answers and reports, with their count. Numbers have 32 bits, those within answers 64, the
  * lowest byte first.
  */
 #include <stdbool.h>
@@ -28,7 +28,7 @@ struct wrong {
 
 struct time {
   uint16_t counters[2];
-  uint8_t told[5];
+  uint8_t reported[5];
 };
 
 uint8_t page_frame_text(uint32_t identifier, bool extended, bool remote, uint8_t dlc, const uint8_t *bytes,
@@ -47,37 +47,37 @@ uint8_t page_port_times(const uint8_t *text, size_t length, size_t node, struct 
                         size_t *count);
 uint8_t page_all_port_times(const uint8_t *text, size_t length, struct time *times, size_t room, size_t *count);
 
-/* A question, and what is told so far. */
+/* A question, and what is reported so far. */
 static uint32_t question[6];
 static uint8_t given[MOST_BYTES];
-static uint8_t told[LINE_BYTES + MOST_BYTES + 64];
-static size_t told_count;
+static uint8_t reported[LINE_BYTES + MOST_BYTES + 64];
+static size_t reported_count;
 
 static struct lines lines;
 static uint8_t levels[MOST_BYTES];
 static struct time times[MOST_TIMES];
 
-static void tell(const void *bytes, size_t count)
+static void report(const void *bytes, size_t count)
 {
-  memcpy(told + told_count, bytes, count);
-  told_count += count;
+  memcpy(reported + reported_count, bytes, count);
+  reported_count += count;
 }
 
-static void tell_byte(uint8_t byte)
+static void report_byte(uint8_t byte)
 {
-  tell(&byte, 1);
+  report(&byte, 1);
 }
 
-static void tell_number(uint64_t number)
+static void report_number(uint64_t number)
 {
-  tell(&number, sizeof number);
+  report(&number, sizeof number);
 }
 
-static void tell_wrong(const struct wrong *wrong)
+static void report_wrong(const struct wrong *wrong)
 {
-  tell_number(wrong->number);
-  tell_number(wrong->element);
-  tell_byte(wrong->field);
+  report_number(wrong->number);
+  report_number(wrong->element);
+  report_byte(wrong->field);
 }
 
 static void frame_text(size_t length)
@@ -86,20 +86,20 @@ static void frame_text(size_t length)
   size_t count = 0;
   uint8_t answer = page_frame_text(question[1], question[2] != 0, question[3] != 0, (uint8_t)question[4], given, length,
                                    text, sizeof text, &count);
-  tell_byte(answer);
+  report_byte(answer);
   if (answer == DONE)
-    tell(text, count);
+    report(text, count);
 }
 
 static void encode(size_t length)
 {
   size_t count = 0, place = 0;
   uint8_t answer = page_encode(given, length, levels, MOST_LEVELS, &count, &place);
-  tell_byte(answer);
+  report_byte(answer);
   if (answer == DONE)
-    tell(levels, count);
+    report(levels, count);
   else
-    tell_number(place);
+    report_number(place);
 }
 
 static void marks(size_t length)
@@ -107,10 +107,10 @@ static void marks(size_t length)
   uint8_t fields[MOST_LEVELS], stuffed[MOST_LEVELS];
   size_t count = 0;
   uint8_t answer = page_marks(given, length, fields, MOST_LEVELS, stuffed, MOST_LEVELS, &count);
-  tell_byte(answer);
+  report_byte(answer);
   if (answer == DONE) {
-    tell(fields, count);
-    tell(stuffed, count);
+    report(fields, count);
+    report(stuffed, count);
   }
 }
 
@@ -120,23 +120,23 @@ static void decode(size_t length)
   uint64_t place = 0;
   page_levels(given, length, levels, sizeof levels, &count, &level_place);
   uint8_t answer = page_decode(given, length, &lines, &place);
-  tell_byte(answer);
+  report_byte(answer);
   if (answer != DONE)
-    tell_number(place);
-  tell_number(count);
-  tell(levels, count);
-  tell(lines.bytes, lines.count);
+    report_number(place);
+  report_number(count);
+  report(levels, count);
+  report(lines.bytes, lines.count);
 }
 
 static void run(size_t length)
 {
   struct wrong wrong = { 0, 0, 0 };
   uint8_t answer = page_run(given, length, &lines, &wrong);
-  tell_byte(answer);
+  report_byte(answer);
   if (answer == BAD_SCENARIO)
-    tell_wrong(&wrong);
+    report_wrong(&wrong);
   if (answer == DONE)
-    tell(lines.bytes, lines.count);
+    report(lines.bytes, lines.count);
 }
 
 static void plan(size_t length)
@@ -144,14 +144,14 @@ static void plan(size_t length)
   struct wrong wrong = { 0, 0, 0 };
   size_t late = 0;
   uint8_t answer = page_plan(given, length, question[1] != 0, &lines, &late, &wrong);
-  tell_byte(answer);
+  report_byte(answer);
   if (answer == BAD_PLAN) {
-    tell_wrong(&wrong);
-    tell(lines.bytes, lines.count);
+    report_wrong(&wrong);
+    report(lines.bytes, lines.count);
   }
   if (answer == DONE) {
-    tell_number(late);
-    tell(lines.bytes, lines.count);
+    report_number(late);
+    report(lines.bytes, lines.count);
   }
 }
 
@@ -161,29 +161,29 @@ static void worst_case(size_t length)
   struct wrong wrong = { 0, 0, 0 };
   size_t front = question[1] < length ? question[1] : length;
   uint8_t answer = page_worst_case(given + front, length - front, given, front, &lines, &wrong);
-  tell_byte(answer);
+  report_byte(answer);
   if (answer == BAD_PLAN)
-    tell_wrong(&wrong);
+    report_wrong(&wrong);
   if (answer == DONE)
-    tell(lines.bytes, lines.count);
+    report(lines.bytes, lines.count);
 }
 
 static void port_times(size_t length)
 {
   size_t count = 0;
   uint8_t answer = page_port_times(given, length, question[1], times, MOST_TIMES, &count);
-  tell_byte(answer);
+  report_byte(answer);
   if (answer == DONE)
-    tell(times, count * sizeof *times);
+    report(times, count * sizeof *times);
 }
 
 static void all_port_times(size_t length)
 {
   size_t count = 0;
   uint8_t answer = page_all_port_times(given, length, times, MOST_TIMES, &count);
-  tell_byte(answer);
+  report_byte(answer);
   if (answer == DONE)
-    tell(times, count * sizeof *times);
+    report(times, count * sizeof *times);
 }
 
 int main(void)
@@ -195,11 +195,11 @@ int main(void)
     if (question[0] >= sizeof calls / sizeof *calls || question[5] > MOST_BYTES ||
         fread(given, 1, question[5], stdin) != question[5])
       return 1;
-    told_count = 0;
+    reported_count = 0;
     calls[question[0]](question[5]);
-    uint32_t count = (uint32_t)told_count;
+    uint32_t count = (uint32_t)reported_count;
     fwrite(&count, sizeof count, 1, stdout);
-    fwrite(told, 1, told_count, stdout);
+    fwrite(reported, 1, reported_count, stdout);
   }
   return ferror(stdin) || fflush(stdout) != 0;
 }

@@ -60,7 +60,7 @@ export const networkTests = [
     assert.deepEqual(await bounds(page), [
       ['S 100 D 7', '122', '121', '240', '240', 'ok, slack 0'], ['S 200 D 7', '121', '121', '361', '360', '▲ late'], ['S 300 D 7', '122', '0', '422', '200', '▲ late'],
     ]);
-    assert.match(await page.get("document.getElementById('network-told').textContent"), /^Load 0\.971, 2 of 3 messages late: deadlines may be missed\. Answered in \d+ ms\.$/);
+    assert.match(await page.get("document.getElementById('network-reported').textContent"), /^Load 0\.971, 2 of 3 messages late: deadlines may be missed\. Answered in \d+ ms\.$/);
     assert.equal(await page.get("document.getElementById('network-borne').textContent"), 'No hits: the document has no errors.');
     const bars = await page.run(() => [...document.querySelectorAll('#network-bounds .bar')].map((bar) => ['bound', 'beyond', 'cut'].map((part) => bar.querySelector(`.${part}`)?.getAttribute('width') ?? bar.querySelectorAll(`.${part}`).length)));
     // the deadline is at 48 %, and 361 of 360 go 0.3 % beyond it, of which 2 % are drawn; 422 of 200 are cut at 96 %
@@ -129,7 +129,7 @@ export const networkTests = [
     writeFileSync(join(work, 'network.toml'), EDGES);
     const page = await networkShown(open);
     await page.files('network-file', [join(work, 'network.toml')]);
-    await page.until("document.getElementById('network-told').textContent.includes('2 of 3 messages')");
+    await page.until("document.getElementById('network-reported').textContent.includes('2 of 3 messages')");
     assert.equal(await saved(page, 'network-save'), EDGES);
     writeFileSync(join(work, 'latin.toml'), Buffer.from('version = 1 # \xe9\n', 'latin1'));
     await page.files('network-file', [join(work, 'latin.toml')]);
@@ -146,7 +146,7 @@ export const networkTests = [
     });
     console.log(`    blocked for ${Math.round(longest)} ms`);
     unblocked(longest);
-    assert.match(await page.get("document.getElementById('network-told').textContent"), /^Load \d+\.\d+, /);
+    assert.match(await page.get("document.getElementById('network-reported').textContent"), /^Load \d+\.\d+, /);
     const first = () => page.run(() => [document.getElementById('network-bounds-paged').textContent, document.querySelector('#network-bounds th').textContent]);
     assert.deepEqual(await first(), ['1 to 64 of 512', 'E 00000001 D 8']);
     await page.click('network-bounds-on');

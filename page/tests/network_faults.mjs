@@ -35,13 +35,13 @@ export const networkFaultTests = [
     const page = await networkShown(open);
     for (const [text, code, place, fields] of WRONG) {
       await fillNetwork(page, 'network-text', text);
-      const told = await networkFault(page);
+      const reported = await networkFault(page);
       const where = place ? ` (line ${place[0]}, column ${place[1]})` : '';
-      assert.ok(told.text.startsWith(`P2 ${code}${where}: `), `${text}: ${told.text}`);
-      assert.match(told.text, /: (must|a field) .*[^.\s]\.$/, 'it says what the field must be, and ends with a stop');
-      assert.equal(told.shown, false);
-      assert.deepEqual(told.invalid.filter((id) => id !== 'network-text'), fields, text);
-      assert.equal(await page.get("document.getElementById('network-told').textContent"), `The network is wrong: P2 ${code}${where}.`);
+      assert.ok(reported.text.startsWith(`P2 ${code}${where}: `), `${text}: ${reported.text}`);
+      assert.match(reported.text, /: (must|a field) .*[^.\s]\.$/, 'it says what the field must be, and ends with a stop');
+      assert.equal(reported.shown, false);
+      assert.deepEqual(reported.invalid.filter((id) => id !== 'network-text'), fields, text);
+      assert.equal(await page.get("document.getElementById('network-reported').textContent"), `The network is wrong: P2 ${code}${where}.`);
     }
     await fillNetwork(page, 'network-text', GOOD);
     assert.deepEqual(await networkFault(page), { text: '', shown: true, invalid: [] });
@@ -57,9 +57,9 @@ export const networkFaultTests = [
     ];
     for (const [text, code, words] of rows) {
       await fillNetwork(page, 'network-text', text);
-      const told = await networkFault(page);
-      assert.ok(told.text.startsWith(`P2 ${code} (line `), told.text);
-      assert.match(told.text, words, text);
+      const reported = await networkFault(page);
+      assert.ok(reported.text.startsWith(`P2 ${code} (line `), reported.text);
+      assert.match(reported.text, words, text);
     }
   }],
   ['a wrong message is marked on its page', async ({ open }) => {

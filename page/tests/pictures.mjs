@@ -28,7 +28,7 @@ async function encode(open) {
   await page.fill('frame-text', 'S 123 D 2 aa55');
   await page.run(() => document.querySelectorAll('#encode-wire .level')[17].focus());
   await drawn(page);
-  await take(page, 'picture.png', { first: '#encode-told', last: '#encode-level', margin: 4 });
+  await take(page, 'picture.png', { first: '#encode-reported', last: '#encode-level', margin: 4 });
 }
 
 /** Three nodes, one of which sees a bit error in the end of frame that the others don't. */
@@ -42,7 +42,7 @@ async function bus(open) {
 async function network(open) {
   const page = await networkShown(open, example('networks/seventeen.toml'), { width: 1024, height: 1000 });
   await drawn(page);
-  await take(page, 'network.png', { first: '#network-told', last: '#network-bounds tr:nth-child(11)' });
+  await take(page, 'network.png', { first: '#network-reported', last: '#network-bounds tr:nth-child(11)' });
 }
 
 const browser = new Browser(program);

@@ -28,7 +28,7 @@ export async function longestTask(page, action) {
   browser.listeners.splice(browser.listeners.indexOf(listener), 1);
   const noted = events.find(({ name }) => name === NOTE);
   const tasks = events.filter(({ ph, name, pid, tid }) => ph === 'X' && name.endsWith('RunTask') && pid === noted?.pid && tid === noted.tid);
-  if (tasks.length === 0) throw new Error('the browser told no tasks');
+  if (tasks.length === 0) throw new Error('the browser reported no tasks');
   return { done, longest: Math.max(...tasks.map(({ tdur = 0 }) => tdur)) / 1000 };
 }
 
@@ -44,6 +44,6 @@ export const taskTests = [
     const { longest: own } = await longestTask(page, () => spin(page));
     assert.ok(own > 100, `its own task of a second took ${own} ms of a processor`);
     const { longest } = await longestTask(page, () => spin(other));
-    assert.ok(longest < own / 2, `a task of ${longest} ms was told, where another page was busy`);
+    assert.ok(longest < own / 2, `a task of ${longest} ms was reported, when another page was busy`);
   }],
 ];

@@ -22,7 +22,7 @@ const TOLD = [
 ];
 
 /** The words about the worst case that is shown. */
-const told = (page) => page.get("document.getElementById('bus-worst').textContent");
+const reported = (page) => page.get("document.getElementById('bus-worst').textContent");
 
 /** The names of the views that are seen. */
 const seen = (page) => page.run(() => [...document.querySelectorAll('[role=tabpanel]')].filter((panel) => !panel.hidden).map((panel) => panel.id));
@@ -49,18 +49,18 @@ export const worstCaseTests = [
       await fillNetwork(page, 'network-text', network);
       assert.equal(await askWorst(page, frame), '', frame);
       assert.deepEqual(await seen(page), ['panel-bus']);
-      assert.equal(await told(page), `The worst case of ${frame} without hits: ${words}`);
+      assert.equal(await reported(page), `The worst case of ${frame} without hits: ${words}`);
       assert.equal(await time(page), Number(/bit time (\d+), /.exec(words)[1]));
       assert.equal(await page.get('document.activeElement.id'), 'bus-picture');
     }
     await fill(page, 'bus-bits', '10');
-    assert.equal(await told(page), '');
+    assert.equal(await reported(page), '');
   }],
   ['a worst case is a link, and the way back leads to its network', async ({ open }) => {
     const page = await networkShown(open, THREE);
     await page.until("location.hash.startsWith('#network&network=')");
     assert.equal(await askWorst(page, 'S 300 D 7'), '');
-    assert.match(await page.get("document.getElementById('bus-told').textContent"), /^853 bit times of 4 ports/);
+    assert.match(await page.get("document.getElementById('bus-reported').textContent"), /^853 bit times of 4 ports/);
     await page.until("/^#bus&scenario=.*&time=849&/.test(location.hash)");
     await page.get('history.back()');
     await page.until("!document.getElementById('panel-network').hidden");
@@ -70,7 +70,7 @@ export const worstCaseTests = [
     const page = await networkShown(open, many(70));
     await page.click('network-bounds-on');
     assert.equal(await askWorst(page, 'E 00000046 D 8'), '');
-    assert.match(await told(page), /: its latest frame, of port 63, is offered before bit time 1 and ends with bit time [\d,]+, [\d,]+ bit times after its offer, which is its bound\.$/);
+    assert.match(await reported(page), /: its latest frame, of port 63, is offered before bit time 1 and ends with bit time [\d,]+, [\d,]+ bit times after its offer, which is its bound\.$/);
   }],
   ['a message is shown if no scenario is long enough for a worst case', async ({ open }) => {
     const page = await networkShown(open, 'version = 1\n[[message]]\nframe = "S 000 D"\nperiod = 100\n[[message]]\nframe = "S 001 D"\nperiod = 5000000\n');

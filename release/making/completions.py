@@ -13,14 +13,14 @@ _DOES = {
 _SHORT = {"--version": "-V"}
 
 
-def bash(told: Program) -> str:
+def bash(described: Program) -> str:
     """The completion for bash."""
-    commands = " ".join(told.commands)
-    helped = " ".join(it for it in told.commands if it != "help")
-    options = " ".join(["--help", *told.options])
+    commands = " ".join(described.commands)
+    helped = " ".join(it for it in described.commands if it != "help")
+    options = " ".join(["--help", *described.options])
     return f"""\
-# bash completion of {told.name}
-_{told.name}() {{
+# bash completion of {described.name}
+_{described.name}() {{
     local words=
     case $COMP_CWORD,${{COMP_WORDS[1]}} in
         1,*) words='{commands} {options}' ;;
@@ -30,16 +30,16 @@ _{told.name}() {{
     esac
     mapfile -t COMPREPLY < <(compgen -W "$words" -- "$2")
 }}
-complete -F _{told.name} {told.name}
+complete -F _{described.name} {described.name}
 """
 
 
-def zsh(told: Program) -> str:
+def zsh(described: Program) -> str:
     """The completion for zsh."""
-    commands = "\n".join(f"    {_quoted(f'{name}:{does}')}" for name, does in told.commands.items())
-    options = "".join(f" {_zsh_option(name, has_word)}" for name, has_word in told.options.items())
+    commands = "\n".join(f"    {_quoted(f'{name}:{does}')}" for name, does in described.commands.items())
+    options = "".join(f" {_zsh_option(name, has_word)}" for name, has_word in described.options.items())
     return f"""\
-#compdef {told.name}
+#compdef {described.name}
 local -a subcommands
 subcommands=(
 {commands}
@@ -54,19 +54,19 @@ _arguments '(-h --help)'{{-h,--help}}'[print help]'{options}
 """
 
 
-def fish(told: Program) -> str:
+def fish(described: Program) -> str:
     """The completion for fish."""
-    name = told.name
+    name = described.name
     lines = [f"# fish completion of {name}", f"complete -c {name} -f"]
     lines += [
         f"complete -c {name} -n __fish_is_first_arg -a {command} -d {_quoted(does)}"
-        for command, does in told.commands.items()
+        for command, does in described.commands.items()
     ]
-    if "help" in told.commands:
-        helped = " ".join(it for it in told.commands if it != "help")
+    if "help" in described.commands:
+        helped = " ".join(it for it in described.commands if it != "help")
         lines.append(f"complete -c {name} -n '__fish_seen_subcommand_from help' -a '{helped}'")
     lines.append(f"complete -c {name} -s h -l help -d 'Print help'")
-    for option, has_word in told.options.items():
+    for option, has_word in described.options.items():
         short = f" -s {_SHORT[option][1:]}" if option in _SHORT else ""
         word = " -x" * has_word
         does = _DOES[option].capitalize()

@@ -31,38 +31,38 @@ def _status(text: Help) -> Iterator[str]:
         yield from _as_is(iter([[first] * bool(first) + block[1:]]))
 
 
-def _commands(told: Program) -> Iterator[str]:
-    for name, text in told.helps.items():
+def _commands(described: Program) -> Iterator[str]:
+    for name, text in described.helps.items():
         yield from [f".Sh {name.upper()}", f"{_plain(text.summary)}."]
         yield from _as_is(text.others("Options:"))
 
 
-def _see_also(told: Program) -> Iterator[str]:
-    others = sorted(PROGRAMS.keys() - {told.name})
+def _see_also(described: Program) -> Iterator[str]:
+    others = sorted(PROGRAMS.keys() - {described.name})
     yield ".Sh SEE ALSO"
     yield from (f".Xr {it} 1{' ,' * (it != others[-1])}" for it in others)
-    for document, what in PROGRAMS[told.name].items():
+    for document, what in PROGRAMS[described.name].items():
         yield from [".Pp", f".Pa share/doc/riddlesage/docs/{document}.md", f"has {what}."]
 
 
-def page(told: Program, version: str, seconds: int) -> str:
+def page(described: Program, version: str, seconds: int) -> str:
     """The man page of a program, with this version and date."""
     day = time.gmtime(seconds)
-    summary = told.help.summary
+    summary = described.help.summary
     lines = [
         f".Dd {time.strftime('%B', day)} {day.tm_mday}, {day.tm_year}",
-        f".Dt {told.name.upper()} 1",
+        f".Dt {described.name.upper()} 1",
         f".Os riddlesage {version}",
         ".Sh NAME",
-        f".Nm {told.name}",
+        f".Nm {described.name}",
         f".Nd {_plain(summary[0].lower() + summary[1:])}",
         ".Sh SYNOPSIS",
-        *(line for call in told.help.usage for line in [".Nm", *map(_word, call)]),
+        *(line for call in described.help.usage for line in [".Nm", *map(_word, call)]),
         ".Sh DESCRIPTION",
-        *_as_is(told.help.others("Exit status:", "Options:")),
-        *_commands(told),
-        *_status(told.help),
-        *_see_also(told),
+        *_as_is(described.help.others("Exit status:", "Options:")),
+        *_commands(described),
+        *_status(described.help),
+        *_see_also(described),
     ]
     return "\n".join(lines) + "\n"
 

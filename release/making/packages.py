@@ -10,7 +10,7 @@ import subprocess
 import sys
 
 from making.staging import SONAME, Layout, Parts, link, put, settled, stage
-from making.tree import TOP, VERSION, commit_time, told
+from making.tree import TOP, VERSION, commit_time, output
 
 sys.path.insert(0, str(TOP / "bindings" / "python"))
 
@@ -58,7 +58,7 @@ def sums(root: pathlib.Path, algorithm: str) -> str:
 
 def libc_needed() -> str:
     """The oldest version of the C library with all symbols that the shared library needs."""
-    names = told("readelf", "--version-info", "--wide", TOP / wheel_backend.LIBRARY)
+    names = output("readelf", "--version-info", "--wide", TOP / wheel_backend.LIBRARY)
     return max(re.findall(r"GLIBC_([\d.]+)", names), key=lambda it: [int(part) for part in it.split(".")])
 
 

@@ -7,7 +7,7 @@ import re
 from collections.abc import Iterator
 from typing import NamedTuple
 
-from making.tree import told
+from making.tree import output
 
 # The name of each program's crate, and the documents that its man page names.
 PROGRAMS = {
@@ -59,9 +59,9 @@ def _read(text: str) -> Help:
 
 def program(path: pathlib.Path) -> Program:
     """The help texts of the program at this path."""
-    whole = told(path, "--help")
+    whole = output(path, "--help")
     text = _read(whole)
     lines = (text.block("Commands:") or ["Commands:"])[1:]
     commands = {it[1]: it[2] for it in map(_COMMAND.fullmatch, lines) if it}
-    helps = {it: told(path, it, "--help") for it in commands if it != "help"}
+    helps = {it: output(path, it, "--help") for it in commands if it != "help"}
     return Program(path.name, text, commands, {it: _read(own) for it, own in helps.items() if own != whole})

@@ -8,7 +8,7 @@ import json
 import subprocess
 
 from making.programs import PROGRAMS
-from making.tree import TOP, Refusal, commit, told
+from making.tree import TOP, Refusal, commit, output
 
 FILE = TOP / "out" / "proved.json"
 # Its time is the beginning of the run.
@@ -45,9 +45,9 @@ class Record:
 def sources() -> Sources | None:
     """The current sources; None if a file differs from its commit, or there is no repository."""
     try:
-        if told("git", "status", "--porcelain"):
+        if output("git", "status", "--porcelain"):
             return None
-        return Sources(commit(), told("git", "rev-parse", "HEAD^{tree}"))
+        return Sources(commit(), output("git", "rev-parse", "HEAD^{tree}"))
     except (OSError, subprocess.CalledProcessError):
         return None
 
@@ -62,7 +62,7 @@ def leave(begun: Sources | None, result: str, left_out: list[str]) -> bool:
     """Writes the record of a run that passed, unless the sources have changed; returns whether it did."""
     if begun is None or begun != sources():
         return False
-    record = Record(begun, told("rt", "version"), result, left_out, sums(BEGUN.stat().st_mtime))
+    record = Record(begun, output("rt", "version"), result, left_out, sums(BEGUN.stat().st_mtime))
     FILE.write_text(json.dumps(dataclasses.asdict(record), indent=1) + "\n", "utf-8")
     return True
 
@@ -85,8 +85,8 @@ def proved() -> Record:
         raise Refusal("the tree has files that are not as its commit has them")
     if now.tree != record.sources.tree:
         raise Refusal(f"tests/all passed on commit {record.sources.commit}, and this is {now.commit}")
-    if told("rt", "version") != record.toolchain:
-        raise Refusal(f"tests/all passed with {record.toolchain}, and this is {told('rt', 'version')}")
+    if output("rt", "version") != record.toolchain:
+        raise Refusal(f"tests/all passed with {record.toolchain}, and this is {output('rt', 'version')}")
     built = sums()
     if changed := [it for it in PARTS if built.get(it) != record.parts.get(it)]:
         raise Refusal(f"not as tests/all left it: {' '.join(changed)}")

@@ -12,7 +12,7 @@ from typing import NamedTuple
 from making import completions, links, man_pages
 from making.programs import Program
 from making.record import LIBRARY, OBJECTS, PAGE
-from making.tree import TOP, VERSION, commit_time, told, toolchain, tracked
+from making.tree import TOP, VERSION, commit_time, output, toolchain, tracked
 
 SONAME = f"libriddlesage.so.{VERSION.split('.')[0]}"
 # Files that are useful without the repository, and those of them that are not: tests.
@@ -50,7 +50,7 @@ class Parts(NamedTuple):
     """The inputs of the files: the folder of the linked programs, their help texts, and the text on their origin."""
 
     programs: pathlib.Path
-    told: list[Program]
+    described: list[Program]
     built_from: str
 
 
@@ -111,7 +111,7 @@ def _programs(root: pathlib.Path, parts: Parts) -> None:
     share = root / "share"
     for part in linked():
         put(root / "lib" / "riddlesage" / part.name, part.read_bytes())
-    for it in parts.told:
+    for it in parts.described:
         put(root / "bin" / it.name, (parts.programs / it.name).read_bytes(), 0o755)
         page = man_pages.page(it, VERSION, commit_time()).encode("ascii")
         put(share / "man" / "man1" / f"{it.name}.1.gz", gzip.compress(page, 9, mtime=0))
@@ -128,7 +128,7 @@ def _library(root: pathlib.Path, layout: Layout) -> None:
     link(libraries / SONAME, f"libriddlesage.so.{VERSION}")
     link(libraries / "libriddlesage.so", SONAME)
     places = [layout.prefix, "${prefix}/include", f"${{prefix}}/{layout.libraries}"]
-    put(libraries / "pkgconfig" / "riddlesage.pc", told(TOP / "bindings" / "pkg-config", *places) + "\n")
+    put(libraries / "pkgconfig" / "riddlesage.pc", output(TOP / "bindings" / "pkg-config", *places) + "\n")
     for name in ("bindings/riddlesage.h", "bindings/cpp/riddlesage.hpp"):
         copy(name, root / "include" / os.path.basename(name))
 

@@ -15,7 +15,7 @@ class Refusal(Exception):
     """The reason why no release is made."""
 
 
-def told(*command: str | pathlib.Path) -> str:
+def output(*command: str | pathlib.Path) -> str:
     """The output of a command, run at the top of the tree, without the last line end."""
     ran = subprocess.run(
         command, cwd=TOP, check=True, stdout=subprocess.PIPE, stdin=subprocess.DEVNULL, text=True, errors="replace"
@@ -25,18 +25,18 @@ def told(*command: str | pathlib.Path) -> str:
 
 def tracked(*patterns: str) -> list[str]:
     """The names of the files below these paths, sorted: those that are committed, and those that could be."""
-    return sorted(told("git", "ls-files", "--cached", "--others", "--exclude-standard", "--", *patterns).splitlines())
+    return sorted(output("git", "ls-files", "--cached", "--others", "--exclude-standard", "--", *patterns).splitlines())
 
 
 def commit() -> str:
     """The commit that is checked out."""
-    return told("git", "rev-parse", "HEAD")
+    return output("git", "rev-parse", "HEAD")
 
 
 @functools.cache
 def commit_time() -> int:
     """The time of the commit in seconds, which is that of all files of a release."""
-    return int(told("git", "log", "-1", "--format=%ct"))
+    return int(output("git", "log", "-1", "--format=%ct"))
 
 
 def kits() -> list[str]:
@@ -47,4 +47,4 @@ def kits() -> list[str]:
 @functools.cache
 def toolchain() -> pathlib.Path:
     """The folder of the Rattle toolchain."""
-    return pathlib.Path(told("rt", "doc")).parent
+    return pathlib.Path(output("rt", "doc")).parent

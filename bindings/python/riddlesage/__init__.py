@@ -6,7 +6,7 @@ r"""A reference model of a classical CAN controller, bit by bit (Bosch CAN 2.0 p
     >>> for _ in range(80):
     ...     bus = sender.drive() & receiver.drive()
     ...     for port in (sender, receiver):
-    ...         told = port.sample(bus)
+    ...         event = port.sample(bus)
     >>> receiver.log
     [Entry(frame=Frame(identifier=291, data=b'\xaaU', extended=False, remote=False, dlc=2), sent=False)]
 
@@ -37,7 +37,7 @@ from riddlesage._frames import (
 )
 from riddlesage._library import VERSION
 from riddlesage._play import Played, play
-from riddlesage._ports import Counters, Entry, Event, Phase, Port, Rule, Run, Standing, State, Told
+from riddlesage._ports import Counters, Entry, Event, Phase, Port, Reported, Rule, Run, Standing, State
 from riddlesage._texts import BadByte, BadScenario, decode_trace, run
 
 __all__ = [
@@ -59,13 +59,13 @@ __all__ = [
     "Played",
     "Port",
     "Refused",
+    "Reported",
     "RiddlesageError",
     "Rule",
     "Run",
     "Standing",
     "State",
     "Status",
-    "Told",
     "__version__",
     "decode",
     "decode_trace",

@@ -11,7 +11,7 @@ from typing import NamedTuple, Protocol
 from riddlesage._frames import RECESSIVE, Frame, Refused, Status, frame_in
 from riddlesage._library import HitKind, PlainHit, PlainWire, lib
 from riddlesage._play import count_in
-from riddlesage._ports import Event, Told
+from riddlesage._ports import Event, Reported
 
 # It is called in each bit time, so its arguments have the right types already.
 _step = lib.riddlesage_wire_step
@@ -27,7 +27,7 @@ class Device(Protocol):
     def drive(self) -> int:
         """Returns the level that it drives in this bit time, 0 or 1. It depends on earlier samples alone."""
 
-    def sample(self, level: int, /) -> Told | None:
+    def sample(self, level: int, /) -> Reported | None:
         """Samples the level that it sees in this bit time, and returns the event, if it reports one."""
 
 
@@ -47,8 +47,8 @@ class Bus:
         >>> bus = Bus(Port(), Port())
         >>> bus.offer(0, Frame(0x123))
         >>> bus.hit_in(attempt=0, offset=16)
-        >>> for told in bus.run(100):
-        ...     print(told.time, told.place, told.event.name)
+        >>> for happened in bus.run(100):
+        ...     print(happened.time, happened.place, happened.event.name)
         16 0 BIT_ERROR
         22 1 STUFF_ERROR
         83 1 RECEIVED
@@ -128,14 +128,14 @@ class Bus:
         happened = []
         seen = self._wire.seen
         for place, device in enumerate(self._devices):
-            told = device.sample(seen[place])
-            if told is not None:
-                happened.append(Happened(time, place, *told))
+            reported = device.sample(seen[place])
+            if reported is not None:
+                happened.append(Happened(time, place, *reported))
         return happened
 
     def run(self, bits: int) -> list[Happened]:
         """Passes `bits` bit times. Returns their events."""
-        return [told for _ in range(bits) for told in self.step()]
+        return [happened for _ in range(bits) for happened in self.step()]
 
     def _place(self, place: int) -> int:
         place = operator.index(place)

@@ -9,7 +9,7 @@ from collections.abc import Callable, Iterator
 from typing import BinaryIO, NoReturn
 
 # The most refused lines of a file that are reported one by one.
-_TOLD = 20
+_MOST_REPORTED = 20
 
 
 class Refusals:
@@ -22,13 +22,13 @@ class Refusals:
     def add(self, line: int, why: str) -> None:
         """Refuses a line."""
         self.count += 1
-        if self.count <= _TOLD:
+        if self.count <= _MOST_REPORTED:
             print(f"{self.file}:{line}: {why}", file=sys.stderr)
 
     def end(self) -> int:
         """Reports how many more lines were refused, and returns the exit status: 1 if any was."""
-        if self.count > _TOLD:
-            print(f"{self.file}: and {self.count - _TOLD} more lines", file=sys.stderr)
+        if self.count > _MOST_REPORTED:
+            print(f"{self.file}: and {self.count - _MOST_REPORTED} more lines", file=sys.stderr)
         return 1 if self.count else 0
 
 

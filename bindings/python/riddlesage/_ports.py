@@ -48,17 +48,17 @@ class State(enum.IntEnum):
 class Phase(enum.IntEnum):
     """The phase of a port before a bit time. riddlesage.h describes each."""
 
-    JOINING = 0
-    IDLE = 1
-    STUFFED = 2
+    IDLE = 0
+    JOINING = 1
+    STUFFED_PART = 2
     CRC_DELIMITER = 3
     ACK_SLOT = 4
     ACK_DELIMITER = 5
     END_OF_FRAME = 6
-    ACTIVE_FLAG = 7
+    ERROR_FLAG = 7
     PASSIVE_FLAG = 8
     OVERLOAD_FLAG = 9
-    BEHIND_FLAG = 10
+    AFTER_FLAG = 10
     DELIMITER = 11
     INTERMISSION = 12
     SUSPEND = 13
@@ -82,7 +82,7 @@ class Rule(enum.IntEnum):
     FIXED_FORM = 8
     ACKNOWLEDGEMENT = 9
     ERROR_FLAGS = 12
-    BEHIND_A_FLAG = 14
+    AFTER_A_FLAG = 14
     DELIMITER = 15
     OVERLOAD_FLAGS = 16
 
@@ -96,14 +96,14 @@ class Standing(NamedTuple):
     rule: Rule
 
     def __str__(self) -> str:
-        """The text of a verdict of canhold: `active-flag 3, receiver; Error flags`."""
+        """The text of a verdict of canhold: `error-flag 3, receiver; Error flags`."""
         phase = self.phase.name.lower().replace("_", "-")
         place = "" if self.phase in _WITHOUT_PLACES else f" {self.place}"
         rule = self.rule.name.replace("_", " ").capitalize()
         return f"{phase}{place}, {'sender' if self.sender else 'receiver'}; {rule}"
 
 
-class Told(NamedTuple):
+class Reported(NamedTuple):
     """The event of a bit time, and the frame if one was sent or received."""
 
     event: Event
@@ -130,7 +130,7 @@ class Run(NamedTuple):
     drives: bytes
     events: bytes
 
-    def told(self) -> Iterator[tuple[int, Event]]:
+    def reported(self) -> Iterator[tuple[int, Event]]:
         """Returns each bit time that has an event, with the event."""
         return ((time, Event(code)) for time, code in enumerate(self.events) if code)
 
@@ -157,11 +157,11 @@ class Port:
         self._at = ctypes.byref(self._port)
         self._level = ctypes.c_uint8()
         self._event = ctypes.c_uint8()
-        self._told = PlainFrame()
+        self._frame = PlainFrame()
         self._drive_arguments = (self._at, ctypes.byref(self._level))
         self._levels = (ctypes.c_uint8(0), ctypes.c_uint8(1))
         self._event_at = ctypes.byref(self._event)
-        self._told_at = ctypes.byref(self._told)
+        self._frame_at = ctypes.byref(self._frame)
         make = lib.riddlesage_port_joining if joining else lib.riddlesage_port_idle
         status = make(self._port, *rooms)
         if status == Status.NO_MEMORY:
@@ -223,17 +223,17 @@ class Port:
             raise Refused(Status(status))
         return level
 
-    def sample(self, level: int) -> Told | None:
+    def sample(self, level: int) -> Reported | None:
         """Passes one bit time: samples the level of the bus, and returns the event, if there is one."""
         if level != 0 and level != 1:
             raise Refused(Status.BAD_LEVEL)
         with self._lock:
-            status = _sample(self._at, self._levels[level], self._event_at, self._told_at)
+            status = _sample(self._at, self._levels[level], self._event_at, self._frame_at)
             code = self._event.value
-            frame = frame_of(self._told) if not status and 0 < code <= Event.RECEIVED else None
+            frame = frame_of(self._frame) if not status and 0 < code <= Event.RECEIVED else None
         if status:
             raise Refused(Status(status))
-        return Told(Event(code), frame) if code else None
+        return Reported(Event(code), frame) if code else None
 
     def run(self, levels: Buffer) -> Run:
         """Samples these levels, one per bit time, whatever the port drives.

@@ -39,12 +39,12 @@ class BadByte(RiddlesageError, ValueError):
         return type(self), (self.place, self.lines)
 
 
-def _written(call: Callable[..., int], document: Address, length: int, told: object) -> tuple[Status, str]:
+def _written(call: Callable[..., int], document: Address, length: int, fault: object) -> tuple[Status, str]:
     """The status of a call and the text that it writes, with a larger buffer if the first is too small."""
     room, count = _ROOM, ctypes.c_size_t()
     while True:
         text = ctypes.create_string_buffer(room)
-        status = Status(call(document, length, text, room, count, told))
+        status = Status(call(document, length, text, room, count, fault))
         if status == Status.NO_MEMORY:
             raise MemoryError
         if status != Status.NO_ROOM or count.value <= room:

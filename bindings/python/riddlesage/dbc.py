@@ -51,7 +51,7 @@ _READ = {
 _NO_MESSAGE = "VECTOR__INDEPENDENT_SIG_MSG"
 _NO_SENDER = "Vector__XXX"
 # The names that canplan accepts.
-_TOLD = re.compile(r"[ !#-\[\]-~]{1,64}")
+_ACCEPTED = re.compile(r"[ !#-\[\]-~]{1,64}")
 # This bit marks an extended identifier.
 _EXTENDED = 1 << 31
 _MOST_CYCLE = 10**9
@@ -310,7 +310,7 @@ def _unnamed(messages: Sequence[Message]) -> list[Message]:
     earlier: set[str] = set()
     unnamed = []
     for message in messages:
-        if message.name in earlier or not _TOLD.fullmatch(message.name):
+        if message.name in earlier or not _ACCEPTED.fullmatch(message.name):
             unnamed.append(message)
         earlier.add(message.name)
     return unnamed
@@ -354,8 +354,8 @@ def _notes(file: str, messages: Sequence[Message], asked: Asked) -> Iterator[str
     taken = [] if asked.jitters else ["jitter 0"]
     taken += [] if asked.deadlines else ["the period as deadline"]
     taken += [] if asked.errors else ["no bit errors"]
-    told = f"{len(planned)} messages, {len(left_out)} left out"
-    yield f"{file}: {told}" + (f"; assumed: {', '.join(taken)}" if taken else "")
+    counts = f"{len(planned)} messages, {len(left_out)} left out"
+    yield f"{file}: {counts}" + (f"; assumed: {', '.join(taken)}" if taken else "")
 
 
 def _number(text: str) -> int:

@@ -125,9 +125,9 @@ class Load:
 
     def lines(self, channel: str) -> Iterator[str]:
         """The lines of the report: the bus, the longest gap and burst, messages by share, and seconds."""
-        told = f"errors {self.errors} fd {self.fd}"
+        others = f"errors {self.errors} fd {self.fd}"
         of = f" of {self.window} load {_part(self.bits, self.window)}" if self.frames else ""
-        yield f"bus {channel} rate {self.bitrate} frames {self.frames} bits {self.bits}{of} {told}"
+        yield f"bus {channel} rate {self.bitrate} frames {self.frames} bits {self.bits}{of} {others}"
         if not self.frames:
             return
         gap, burst = self.gap, self.burst

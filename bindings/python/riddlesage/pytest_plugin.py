@@ -24,7 +24,7 @@ from typing import TYPE_CHECKING, Any, Protocol, cast
 
 import pytest
 
-from riddlesage import Device, Event, Frame, State, Told
+from riddlesage import Device, Event, Frame, Reported, State
 
 if TYPE_CHECKING:
     from kit.documents import Case, Transcript
@@ -33,13 +33,13 @@ _EVENTS = {
     Event.SENT: "sent",
     Event.RECEIVED: "received",
     Event.LOST: "lost",
-    Event.BIT_ERROR: "error bit",
-    Event.STUFF_ERROR: "error stuff",
-    Event.CRC_ERROR: "error crc",
-    Event.FORM_ERROR: "error form",
-    Event.ACK_ERROR: "error ack",
+    Event.BIT_ERROR: "bit error",
+    Event.STUFF_ERROR: "stuff error",
+    Event.CRC_ERROR: "crc error",
+    Event.FORM_ERROR: "form error",
+    Event.ACK_ERROR: "ack error",
     Event.OVERLOAD: "overload",
-    Event.WENT_OFF: "off",
+    Event.WENT_OFF: "went off",
     Event.RECOVERED: "recovered",
 }
 _STATES = {State.ERROR_ACTIVE: "active", State.ERROR_PASSIVE: "passive", State.BUS_OFF: "off"}
@@ -73,9 +73,9 @@ def _kit(module: str) -> Any:
     return importlib.import_module(f"{_PACKAGE}.{module}")
 
 
-def _told_text(told: Told) -> str:
+def _event_text(reported: Reported) -> str:
     """The text of an event, in the words of the kit."""
-    return _EVENTS[told.event] + (f" {told.frame.text}" if told.frame else "")
+    return _EVENTS[reported.event] + (f" {reported.frame.text}" if reported.frame else "")
 
 
 class _Holding(Protocol):
@@ -130,14 +130,14 @@ class CanCase:
             event = device.sample(1 if tester == "f" else driven & int(tester))
             drove += str(int(driven))
             if event is not None:
-                events.append((time, _told_text(event)))
+                events.append((time, _event_text(event)))
         state, counters = getattr(device, "state", None), getattr(device, "counters", None)
         end = None
         if state is not None and counters is not None:
             transmit, receive = counters
             end = (_STATES[State(state)], int(transmit), int(receive))
-        told: Transcript = _kit("documents").Transcript(self.name, drove, events or None, None, end)
-        return told
+        played: Transcript = _kit("documents").Transcript(self.name, drove, events or None, None, end)
+        return played
 
 
 def pytest_addoption(parser: pytest.Parser) -> None:

@@ -156,18 +156,18 @@ def test_command(tmp_path: pathlib.Path, capsys: pytest.CaptureFixture[str]) -> 
     log = tmp_path / "a.log"
     log.write_bytes(b"(1.5) can0 123#AB01\r\n\n123#R4\n  can0  20000080   [0]   ERRORFRAME\n\twords\n1\xff\n00000001#")
     assert main(["texts", str(log)]) == 1
-    told = capsys.readouterr()
-    assert told.out == "S 123 D 2 ab01\nS 123 R 4\nE 00000001 D 0\n"
-    assert told.err.splitlines() == [
+    written = capsys.readouterr()
+    assert written.out == "S 123 D 2 ab01\nS 123 R 4\nE 00000001 D 0\n"
+    assert written.err.splitlines() == [
         f"{log}:4: an error frame has no frame text",
         f"{log}:6: this is not a line of candump",
     ]
     texts = tmp_path / "a.txt"
     texts.write_text("S 123 D 2 ab01\nS 123 R 4\nS 800 D 0\nE 00000001 D 9 0011223344556677\n", "ascii")
     assert main(["lines", str(texts)]) == 1
-    told = capsys.readouterr()
-    assert told.out == "123#AB01\n123#R4\n00000001#0011223344556677_9\n"
-    assert told.err.startswith(f"{texts}:3: ")
+    written = capsys.readouterr()
+    assert written.out == "123#AB01\n123#R4\n00000001#0011223344556677_9\n"
+    assert written.err.startswith(f"{texts}:3: ")
 
 
 def test_standard_input(monkeypatch: pytest.MonkeyPatch, capsys: pytest.CaptureFixture[str]) -> None:

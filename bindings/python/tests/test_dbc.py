@@ -41,9 +41,9 @@ def messages_of(text: str) -> list[tuple[str, str, int]]:
 def test_example(capsys: pytest.CaptureFixture[str]) -> None:
     """The example gives its stored network, and reports the defaults."""
     assert main([str(BOILER), *WORDS]) == 0
-    told = capsys.readouterr()
-    assert told.out == (EXAMPLES / "boiler.toml").read_text("ascii")
-    assert told.err.splitlines() == [
+    written = capsys.readouterr()
+    assert written.out == (EXAMPLES / "boiler.toml").read_text("ascii")
+    assert written.err.splitlines() == [
         f"{BOILER}: assumed to be at least a cycle time apart, despite send type cyclicIfActive: PanelWish",
         f"{BOILER}: 5 messages, 0 left out; assumed: the period as deadline, no bit errors",
     ]
@@ -52,11 +52,11 @@ def test_example(capsys: pytest.CaptureFixture[str]) -> None:
 def test_left_out(capsys: pytest.CaptureFixture[str]) -> None:
     """A message without a cycle time is left out, and named with its line."""
     assert main([str(BOILER), "--bitrate", "125000"]) == 0
-    told = capsys.readouterr()
-    assert "BoilerFault" not in told.out and len(tomllib.loads(told.out)["message"]) == 4
+    written = capsys.readouterr()
+    assert "BoilerFault" not in written.out and len(tomllib.loads(written.out)["message"]) == 4
     left_out = "BoilerFault has no cycle time, and is left out; --period BoilerFault=MICROSECONDS gives it a period"
-    assert f"{BOILER}:55: {left_out}" in told.err.splitlines()
-    assert "4 messages, 1 left out; assumed: jitter 0, the period as deadline, no bit errors" in told.err
+    assert f"{BOILER}:55: {left_out}" in written.err.splitlines()
+    assert "4 messages, 1 left out; assumed: jitter 0, the period as deadline, no bit errors" in written.err
 
 
 @pytest.mark.skipif(not CANPLAN, reason="CANPLAN does not name the program")
@@ -253,14 +253,14 @@ def test_names() -> None:
     names = ["a.b", 'a"b', "a\\b", "é", 64 * "x", 65 * "x", "a.b"]
     text = "\n".join(f"BO_ {place} {name}: 0 N" for place, name in enumerate(names))
     document = network(read(text), Asked(500000, {"": 100}))
-    told = [it.get("name") for it in tomllib.loads(document)["message"]]
-    assert told == ["a.b", None, None, None, 64 * "x", None, None]
+    kept = [it.get("name") for it in tomllib.loads(document)["message"]]
+    assert kept == ["a.b", None, None, None, 64 * "x", None, None]
     comments = [line for line in document.splitlines() if line.startswith("#")]
     assert comments == [f"# {it}sent by N" for it in ("", 'a"b, ', "a\\b, ", "é, ", "", 65 * "x" + ", ", "a.b, ")]
 
 
 @pytest.mark.parametrize(
-    ("text", "words", "status", "told"),
+    ("text", "words", "status", "reported"),
     [
         ("BO_ 1 Name: 8 A", [], 1, "no message has a period"),
         ("", [], 1, "no message has a period"),
@@ -270,8 +270,8 @@ def test_names() -> None:
         ('BO_ 1 A"B: 8 A', ["--period", "9"], 0, ':1: canplan would refuse the name A"B'),
     ],
 )
-def test_told(
-    text: str, words: list[str], status: int, told: str, tmp_path: pathlib.Path, capsys: pytest.CaptureFixture[str]
+def test_reported(
+    text: str, words: list[str], status: int, reported: str, tmp_path: pathlib.Path, capsys: pytest.CaptureFixture[str]
 ) -> None:
     """What the command reports, and its exit status."""
     file = tmp_path / "a.dbc"
@@ -279,7 +279,7 @@ def test_told(
     assert main([str(file), "--bitrate", "500000", *words]) == status
     written = capsys.readouterr()
     assert (written.out != "") == (status == 0)
-    assert f"{file}{told}" in written.err.replace(f"{file}: no", f"{file}no")
+    assert f"{file}{reported}" in written.err.replace(f"{file}: no", f"{file}no")
 
 
 @pytest.mark.parametrize(

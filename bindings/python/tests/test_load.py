@@ -20,16 +20,16 @@ EXAMPLES = pathlib.Path(__file__).resolve().parent.parent / "examples"
 BEGUN = 1436509052
 
 
-def line_of(told: Happened, bitrate: int) -> str:
+def line_of(happened: Happened, bitrate: int) -> str:
     """The line of candump for a frame on a bus: its time is the end of the bit time that reports it as sent."""
-    assert told.frame is not None
-    microseconds = (told.time + 1) * 10**6 // bitrate
-    return f"({BEGUN + microseconds // 10**6}.{microseconds % 10**6:06}) can0 {text_of(told.frame)}"
+    assert happened.frame is not None
+    microseconds = (happened.time + 1) * 10**6 // bitrate
+    return f"({BEGUN + microseconds // 10**6}.{microseconds % 10**6:06}) can0 {text_of(happened.frame)}"
 
 
 def sent_by(bus: Bus, bits: int) -> list[Happened]:
     """The frames that were sent in these bit times."""
-    return [told for told in bus.run(bits) if told.event is Event.SENT]
+    return [happened for happened in bus.run(bits) if happened.event is Event.SENT]
 
 
 def boiler_bus() -> Bus:
@@ -47,7 +47,7 @@ def boiler_bus() -> Bus:
 def test_example(capsys: pytest.CaptureFixture[str]) -> None:
     """The example is the log of such a bus, and its load the stored one."""
     log = EXAMPLES / "boiler.log"
-    lines = [line_of(told, 125000) for told in sent_by(boiler_bus(), 6250)]
+    lines = [line_of(happened, 125000) for happened in sent_by(boiler_bus(), 6250)]
     assert log.read_text("ascii").splitlines() == lines
     assert main([str(log), "--bitrate", "125000"]) == 0
     assert capsys.readouterr() == ((EXAMPLES / "boiler.load").read_text("ascii"), "")
@@ -76,11 +76,11 @@ def test_levels(seed: int) -> None:
     """Bits, gaps and bursts are those of the levels, whatever the frames."""
     bus, load = some_bus(random.Random(seed), 20000), Load(500000, slack=0)
     sent = sent_by(bus, 20000)
-    ends = [told.time + 1 for told in sent]
+    ends = [happened.time + 1 for happened in sent]
     starts = [bus.levels.index(0, end) for end in [0, *ends[:-1]]]
-    for told, end in zip(sent, ends):
-        assert told.frame is not None
-        load.take(end * 2000, told.frame)
+    for happened, end in zip(sent, ends):
+        assert happened.frame is not None
+        load.take(end * 2000, happened.frame)
     gaps = [start - end - INTERMISSION for start, end in zip(starts[1:], ends)]
     bits = [end - start + INTERMISSION for start, end in zip(starts, ends)]
     bursts, burst = [], 0
@@ -100,8 +100,8 @@ def test_intermission() -> None:
     bus, load = Bus(Port(), Port()), Load(1000000, slack=0)
     for _ in range(3):
         bus.offer(0, Frame(0x123))
-    for told in sent_by(bus, 200):
-        load.take((told.time + 1) * 1000, Frame(0x123))
+    for happened in sent_by(bus, 200):
+        load.take((happened.time + 1) * 1000, Frame(0x123))
     assert (load.frames, load.gap.bits, load.burst.frames, load.window) == (3, 0, 3, load.bits)
 
 
@@ -142,7 +142,7 @@ def test_texts() -> None:
         assert (failed, tried > 0) == (0, True)
 
 
-def told_of(lines: Iterable[str], tmp_path: pathlib.Path, *words: str) -> int:
+def status_of(lines: Iterable[str], tmp_path: pathlib.Path, *words: str) -> int:
     """The exit status of the command for these lines."""
     (tmp_path / "a.log").write_text("\n".join(lines), "ascii")
     return main([str(tmp_path / "a.log"), "--bitrate", "500000", *words])
@@ -164,12 +164,12 @@ def test_lines(tmp_path: pathlib.Path, capsys: pytest.CaptureFixture[str]) -> No
         " (1.000300)  can0  123   [1]  00",
         "(1.000310) can0 123#00",
     ]
-    assert told_of(lines, tmp_path) == 1
-    told = capsys.readouterr()
-    assert told.out.splitlines()[0].startswith("bus can0 rate 500000 frames 4 bits ")
-    assert told.out.splitlines()[0].endswith(" errors 1 fd 1")
-    assert "bus can1 rate 500000 frames 0 bits 0 errors 1 fd 0" in told.out.splitlines()
-    assert told.err.splitlines() == [
+    assert status_of(lines, tmp_path) == 1
+    written = capsys.readouterr()
+    assert written.out.splitlines()[0].startswith("bus can0 rate 500000 frames 4 bits ")
+    assert written.out.splitlines()[0].endswith(" errors 1 fd 1")
+    assert "bus can1 rate 500000 frames 0 bits 0 errors 1 fd 0" in written.out.splitlines()
+    assert written.err.splitlines() == [
         f"{tmp_path}/a.log:5: it has no time: candump writes one with -l, -L or -t a",
         f"{tmp_path}/a.log:7: its time is before that of an earlier line",
         f"{tmp_path}/a.log:8: this is not a line of candump",
@@ -181,12 +181,12 @@ def test_lines(tmp_path: pathlib.Path, capsys: pytest.CaptureFixture[str]) -> No
 def test_channels(tmp_path: pathlib.Path, capsys: pytest.CaptureFixture[str]) -> None:
     """Each channel is a bus."""
     lines = ["(1.0) can0 123#", "(1.1) can1 124#", "(0.9) can2 125#", "(1.2) can1 126#"]
-    assert told_of(lines, tmp_path) == 0
+    assert status_of(lines, tmp_path) == 0
     buses = [line.split(" ")[:6] for line in capsys.readouterr().out.splitlines() if line.startswith("bus ")]
     assert buses == [["bus", f"can{it}", "rate", "500000", "frames", str(1 + it % 2)] for it in range(3)]
-    assert told_of(lines, tmp_path, "--channel", "can1") == 0
+    assert status_of(lines, tmp_path, "--channel", "can1") == 0
     assert [line for line in capsys.readouterr().out.splitlines() if line.startswith("bus ")][0].startswith("bus can1")
-    assert told_of(lines, tmp_path, "--channel", "can3") == 1
+    assert status_of(lines, tmp_path, "--channel", "can3") == 1
 
 
 @pytest.mark.parametrize("words", [[], ["--bitrate", "0"], ["--bitrate", "x"], ["--bitrate", "1", "--slack", "-1"]])
@@ -219,7 +219,7 @@ def test_python_can(end: str, tmp_path: pathlib.Path, capsys: pytest.CaptureFixt
     log.with_suffix(end.lower()).rename(log)
     assert main([str(log), "--bitrate", "500000"]) == 0
     given = capsys.readouterr().out.splitlines()
-    assert told_of(lines, tmp_path) == 0
+    assert status_of(lines, tmp_path) == 0
     wanted = capsys.readouterr().out.splitlines()
     assert given[0].split(" ")[2:] == wanted[0].split(" ")[2:]
     assert [line.split(" from ")[0].split(" after ")[0] for line in given[1:]] == [
@@ -245,5 +245,5 @@ def test_no_log(end: str, content: bytes, tmp_path: pathlib.Path, capsys: pytest
     log = tmp_path / f"a{end}"
     log.write_bytes(content)
     assert main([str(log), "--bitrate", "500000"]) == 1
-    told = capsys.readouterr()
-    assert (told.out, told.err.splitlines()[-1]) == ("", f"{log}: it has no frames of any bus")
+    written = capsys.readouterr()
+    assert (written.out, written.err.splitlines()[-1]) == ("", f"{log}: it has no frames of any bus")

@@ -99,12 +99,12 @@ impl EventKind {
 /// The phase of a port before a bit time, and the progress within it.
 #[derive(Clone, Copy, Debug, PartialEq, Eq, Hash)]
 pub enum Phase {
-    /// Bus integration: how many recessive levels in a row so far, 0 to 10.
-    Joining(u8),
     /// Between frames, and free to send.
     Idle,
+    /// Bus integration: how many recessive levels in a row so far, 0 to 10.
+    Joining(u8),
     /// Start of frame to CRC sequence: how many bits so far, without stuff bits, 1 to 118.
-    Stuffed(u8),
+    StuffedPart(u8),
     /// The CRC delimiter is next.
     CrcDelimiter,
     /// The ACK slot is next.
@@ -114,13 +114,13 @@ pub enum Phase {
     /// How many of its seven bits have passed, 0 to 6.
     EndOfFrame(u8),
     /// Active error flag: how many of its six bits have passed, 0 to 5.
-    ActiveFlag(u8),
+    ErrorFlag(u8),
     /// Passive error flag: how many equal levels came last, 0 to 5.
     PassiveFlag(u8),
     /// How many of its six bits have passed, 0 to 5.
     OverloadFlag(u8),
     /// After a flag, until a recessive level: how many dominant levels so far, modulo 8.
-    BehindFlag(u8),
+    AfterFlag(u8),
     /// Error or overload delimiter: how many of its eight bits have passed, 1 to 7.
     Delimiter(u8),
     /// How many of its three bits have passed, 0 to 2.
@@ -134,17 +134,17 @@ pub enum Phase {
 impl Phase {
     fn of(code: u8, place: u8) -> Self {
         match code {
-            0 => Self::Joining(place),
-            1 => Self::Idle,
-            2 => Self::Stuffed(place),
+            0 => Self::Idle,
+            1 => Self::Joining(place),
+            2 => Self::StuffedPart(place),
             3 => Self::CrcDelimiter,
             4 => Self::AckSlot,
             5 => Self::AckDelimiter,
             6 => Self::EndOfFrame(place),
-            7 => Self::ActiveFlag(place),
+            7 => Self::ErrorFlag(place),
             8 => Self::PassiveFlag(place),
             9 => Self::OverloadFlag(place),
-            10 => Self::BehindFlag(place),
+            10 => Self::AfterFlag(place),
             11 => Self::Delimiter(place),
             12 => Self::Intermission(place),
             13 => Self::Suspend(place),
@@ -181,7 +181,7 @@ pub enum Rule {
     /// An active or a passive error flag.
     ErrorFlags,
     /// After a flag, before the first recessive level.
-    BehindAFlag,
+    AfterAFlag,
     /// The error or overload delimiter.
     Delimiter,
     /// An overload flag.
@@ -202,7 +202,7 @@ impl Rule {
             8 => Self::FixedForm,
             9 => Self::Acknowledgement,
             12 => Self::ErrorFlags,
-            14 => Self::BehindAFlag,
+            14 => Self::AfterAFlag,
             15 => Self::Delimiter,
             16 => Self::OverloadFlags,
             _ => unreachable!("riddlesage returns rule {code}"),

@@ -45,14 +45,14 @@ fn a_port_moves_and_goes_to_a_thread() {
     sender.offer(&frame()).expect("room for a frame");
     assert_eq!(sender.offer(&frame()), Err(Refused::QueueFull));
     assert_eq!(sender.hold(3), Err(Refused::BadCount));
-    let told = std::thread::spawn(move || {
+    let events = std::thread::spawn(move || {
         let port = &mut sender;
         let levels: Vec<_> = (0..200).filter_map(|_| port.sample(port.drive())).collect();
         levels
     });
-    let told = told.join().expect("no panic");
+    let events = events.join().expect("no panic");
     // nobody acknowledges
-    assert!(!told.is_empty() && told.iter().all(|event| *event == Event::AckError));
+    assert!(!events.is_empty() && events.iter().all(|event| *event == Event::AckError));
 }
 
 #[test]
@@ -93,7 +93,7 @@ fn where_a_port_stands() {
     assert_eq!(sender.phase(), Standing { phase: Phase::Idle, sender: false, rule: Rule::StartOfFrame });
     sender.offer(&frame()).expect("room for a frame");
     sender.sample(Level::Dominant);
-    assert_eq!(sender.phase(), Standing { phase: Phase::Stuffed(1), sender: true, rule: Rule::Arbitration });
+    assert_eq!(sender.phase(), Standing { phase: Phase::StuffedPart(1), sender: true, rule: Rule::Arbitration });
     let mut copy = sender.copy().expect("memory");
     assert_eq!(copy.phase(), sender.phase());
     assert_eq!(copy.offer(&frame()), Err(Refused::QueueFull));

@@ -38,7 +38,7 @@ static void begin_error_flag(struct controller *can, bool unacknowledged)
         can->flag_run = 0;
         can->unacknowledged = unacknowledged;
     } else {
-        enter(can, ACTIVE_FLAG);
+        enter(can, ERROR_FLAG);
     }
 }
 
@@ -55,7 +55,7 @@ static enum event error(struct controller *can, enum event kind)
 /* A dominant level in a field of fixed form, which is recessive. */
 static enum event form_error(struct controller *can)
 {
-    return error(can, can->is_sender ? ERROR_BIT : ERROR_FORM);
+    return error(can, can->is_sender ? BIT_ERROR : FORM_ERROR);
 }
 
 static enum event begin_overload_flag(struct controller *can)
@@ -70,10 +70,10 @@ static enum event take_flag(struct controller *can, enum level seen)
     if (seen == RECESSIVE) {
         begin_error_flag(can, false);
         count_eight(can);
-        return ERROR_BIT;
+        return BIT_ERROR;
     }
     if (++can->place == FLAG_LEVELS) {
-        can->first_counts = can->phase == ACTIVE_FLAG && !can->is_sender;
+        can->first_counts = can->phase == ERROR_FLAG && !can->is_sender;
         can->dominant = 0;
         enter(can, AFTER_FLAG);
     }
@@ -166,7 +166,7 @@ static enum event take_idle(struct controller *can, enum level seen)
     /* bit error: its own start of frame is not on the bus */
     can->sending = *first_frame(&can->queue);
     can->is_sender = true;
-    return error(can, ERROR_BIT);
+    return error(can, BIT_ERROR);
 }
 
 static enum event take_delimiter(struct controller *can, enum level seen)
@@ -174,7 +174,7 @@ static enum event take_delimiter(struct controller *can, enum level seen)
     bool is_last = can->place == 7;
 
     if (seen == DOMINANT)
-        return is_last ? begin_overload_flag(can) : error(can, ERROR_FORM);
+        return is_last ? begin_overload_flag(can) : error(can, FORM_ERROR);
     if (is_last)
         return enter_intermission(can);
     can->place++;
@@ -228,7 +228,7 @@ static enum event take_bus_off(struct controller *can, enum level seen)
 static enum event take_received_level(struct controller *can, enum level seen)
 {
     if (!receive(&can->in, seen))
-        return error(can, ERROR_STUFF);
+        return error(can, STUFF_ERROR);
     if (has_ended(&can->in)) {
         can->agrees = can->in.crc == can->in.sequence;
         enter(can, CRC_DELIMITER);
@@ -243,12 +243,12 @@ static enum event take_overridden(struct controller *can, unsigned place, enum l
 
     if (out->stuff[place]) {
         if (seen == RECESSIVE || place > out->rtr)
-            return error(can, ERROR_STUFF);
+            return error(can, STUFF_ERROR);
         begin_error_flag(can, false);
-        return ERROR_STUFF;
+        return STUFF_ERROR;
     }
     if (seen == RECESSIVE || place > out->rtr)
-        return error(can, ERROR_BIT);
+        return error(can, BIT_ERROR);
     can->is_sender = false;
     take_received_level(can, seen);
     return LOST;
@@ -276,13 +276,13 @@ static enum event take_ack_slot(struct controller *can, enum level seen)
 {
     if (can->is_sender && seen == RECESSIVE) {
         if (!is_passive(&can->counters))
-            return error(can, ERROR_ACK);
+            return error(can, ACK_ERROR);
         begin_error_flag(can, true);
-        return ERROR_ACK;
+        return ACK_ERROR;
     }
     if (!can->is_sender && can->agrees) {
         if (seen == RECESSIVE)
-            return error(can, ERROR_BIT);
+            return error(can, BIT_ERROR);
         count_received(&can->counters);
     }
     enter(can, ACK_DELIMITER);
@@ -294,7 +294,7 @@ static enum event take_ack_delimiter(struct controller *can, enum level seen)
     if (seen == DOMINANT)
         return form_error(can);
     if (!can->is_sender && !can->agrees)
-        return error(can, ERROR_CRC);
+        return error(can, CRC_ERROR);
     enter(can, END_OF_FRAME);
     return NOTHING;
 }
@@ -302,7 +302,7 @@ static enum event take_ack_delimiter(struct controller *can, enum level seen)
 static enum event take_sender_end(struct controller *can, enum level seen)
 {
     if (seen == DOMINANT)
-        return error(can, ERROR_BIT);
+        return error(can, BIT_ERROR);
     if (++can->place < 7)
         return NOTHING;
     count_sent(&can->counters);
@@ -317,7 +317,7 @@ static enum event take_receiver_end(struct controller *can, enum level seen)
     bool is_last = can->place == 6;
 
     if (seen == DOMINANT)
-        return is_last ? begin_overload_flag(can) : error(can, ERROR_FORM);
+        return is_last ? begin_overload_flag(can) : error(can, FORM_ERROR);
     if (is_last)
         return enter_intermission(can);
     if (++can->place < 6)
@@ -353,7 +353,7 @@ enum level can_drives(const struct controller *can)
         return can->is_sender ? can->out.levels[can->out.place] : RECESSIVE;
     case ACK_SLOT:
         return !can->is_sender && can->agrees ? DOMINANT : RECESSIVE;
-    case ACTIVE_FLAG:
+    case ERROR_FLAG:
     case OVERLOAD_FLAG:
         return DOMINANT;
     default:
@@ -378,7 +378,7 @@ static enum event take_level(struct controller *can, enum level seen)
         return take_ack_delimiter(can, seen);
     case END_OF_FRAME:
         return can->is_sender ? take_sender_end(can, seen) : take_receiver_end(can, seen);
-    case ACTIVE_FLAG:
+    case ERROR_FLAG:
     case OVERLOAD_FLAG:
         return take_flag(can, seen);
     case PASSIVE_FLAG:

@@ -9,14 +9,14 @@
 #include "queue.h"
 
 enum phase {
-    JOINING,
     IDLE,
+    JOINING,
     STUFFED_PART,
     CRC_DELIMITER,
     ACK_SLOT,
     ACK_DELIMITER,
     END_OF_FRAME,
-    ACTIVE_FLAG,
+    ERROR_FLAG,
     PASSIVE_FLAG,
     OVERLOAD_FLAG,
     AFTER_FLAG,
@@ -31,11 +31,11 @@ enum event {
     SENT,
     RECEIVED,
     LOST,
-    ERROR_STUFF,
-    ERROR_BIT,
-    ERROR_FORM,
-    ERROR_CRC,
-    ERROR_ACK,
+    BIT_ERROR,
+    STUFF_ERROR,
+    CRC_ERROR,
+    FORM_ERROR,
+    ACK_ERROR,
     OVERLOAD,
     WENT_OFF,
     RECOVERED

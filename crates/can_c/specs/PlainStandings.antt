@@ -4,26 +4,26 @@ use Rattle.std.specs.Prelude.{ℕ}
 use Rattle.can_mac.specs.State.{MacState}
 use Rattle.can_conform.specs.declared.standing.PhaseName.{PhaseName}
 use Rattle.can_conform.specs.declared.standing.PhaseName.TheVariants as name
-use Rattle.can_conform.specs.declared.standing.Part.{Part}
-use Rattle.can_conform.specs.declared.standing.Part.TheVariants as part
+use Rattle.can_conform.specs.declared.standing.RoleName.{RoleName}
+use Rattle.can_conform.specs.declared.standing.RoleName.TheVariants as role
 use Rattle.can_conform.specs.declared.standing.Rule.{Rule}
 use Rattle.can_conform.specs.declared.standing.Rule.TheVariants as rule
-use Rattle.can_conform.specs.Standings.{part_of, phase_name, phase_rule}
+use Rattle.can_conform.specs.Standings.{phase_name, phase_rule, role_name}
 use Rattle.can_c.specs.declared.standing.PlainStanding.{PlainStanding}
 
 -- the number of a phase
 abbrev pub phase_code : PhaseName → ℕ
-phase_code (name.Joining row) = 0
-phase_code name.Idle = 1
-phase_code (name.Stuffed n) = 2
+phase_code name.Idle = 0
+phase_code (name.Joining row) = 1
+phase_code (name.StuffedPart n) = 2
 phase_code name.CrcDelimiter = 3
 phase_code name.AckSlot = 4
 phase_code name.AckDelimiter = 5
 phase_code (name.EndOfFrame place) = 6
-phase_code (name.ActiveFlag place) = 7
+phase_code (name.ErrorFlag place) = 7
 phase_code (name.PassiveFlag run) = 8
 phase_code (name.OverloadFlag place) = 9
-phase_code (name.BehindFlag dominant) = 10
+phase_code (name.AfterFlag dominant) = 10
 phase_code (name.Delimiter place) = 11
 phase_code (name.Intermission place) = 12
 phase_code (name.Suspend place) = 13
@@ -31,26 +31,26 @@ phase_code (name.BusOff rows) = 14
 
 -- the progress within a phase: 0 in a phase of one bit, and when idle
 abbrev pub phase_place : PhaseName → ℕ
-phase_place (name.Joining row) = row
 phase_place name.Idle = 0
-phase_place (name.Stuffed n) = n
+phase_place (name.Joining row) = row
+phase_place (name.StuffedPart n) = n
 phase_place name.CrcDelimiter = 0
 phase_place name.AckSlot = 0
 phase_place name.AckDelimiter = 0
 phase_place (name.EndOfFrame place) = place
-phase_place (name.ActiveFlag place) = place
+phase_place (name.ErrorFlag place) = place
 phase_place (name.PassiveFlag run) = run
 phase_place (name.OverloadFlag place) = place
-phase_place (name.BehindFlag dominant) = dominant
+phase_place (name.AfterFlag dominant) = dominant
 phase_place (name.Delimiter place) = place
 phase_place (name.Intermission place) = place
 phase_place (name.Suspend place) = place
 phase_place (name.BusOff rows) = rows
 
 -- the number of a role: receiver or transmitter
-abbrev pub part_code : Part → ℕ
-part_code part.Receiver = 0
-part_code part.Sender = 1
+abbrev pub role_code : RoleName → ℕ
+role_code role.Receiver = 0
+role_code role.Sender = 1
 
 -- the number of a rule
 abbrev pub rule_code : Rule → ℕ
@@ -64,11 +64,11 @@ rule_code rule.Arbitration = 6
 rule_code rule.StuffPlaces = 7
 rule_code rule.FixedForm = 8
 rule_code rule.Acknowledgement = 9
-rule_code rule.RefusedCheckSequence = 10
+rule_code rule.RefusedCrcSequence = 10
 rule_code rule.DominantLastLevel = 11
 rule_code rule.ErrorFlags = 12
 rule_code rule.ErrorInAnOwnFlag = 13
-rule_code rule.BehindAFlag = 14
+rule_code rule.AfterAFlag = 14
 rule_code rule.Delimiter = 15
 rule_code rule.OverloadFlags = 16
 rule_code rule.OwnOverloadFrames = 17
@@ -78,6 +78,6 @@ abbrev pub plain_standing : MacState → PlainStanding
 plain_standing m = record {
   phase = phase_code (phase_name m);
   place = phase_place (phase_name m);
-  sender = part_code (part_of m.role);
+  sender = role_code (role_name m.role);
   rule = rule_code (phase_rule m.phase m.role);
 }

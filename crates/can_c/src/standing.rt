@@ -1,7 +1,7 @@
 ghost use Rattle.std.specs.Prelude.{◌≡◌, ◌≢◌, IfSome};
-ghost use Rattle.can_conform.specs.Standings.{part_of, phase_name};
+ghost use Rattle.can_conform.specs.Standings.{phase_name, role_name};
 ghost use Rattle.can_c.specs.Calls.{port_status};
-ghost use Rattle.can_c.specs.PlainStandings.{part_code as part_code_of, phase_code, phase_place, plain_standing, rule_code as rule_code_of};
+ghost use Rattle.can_c.specs.PlainStandings.{phase_code, phase_place, plain_standing, role_code as role_code_of, rule_code as rule_code_of};
 ghost use Rattle.can_c.specs.Statuses.{done, status_code};
 
 use crate::handle::{Handle, with_port};
@@ -52,7 +52,7 @@ impl PlainStanding {
         PlainStanding {
             phase,
             place,
-            sender: part_code(access.role()),
+            sender: role_code(access.role()),
             rule: rule_code(phase_rule(access.phase(), access.role())),
         }
     }
@@ -66,8 +66,8 @@ fn phase_of(access: &PackedMac) -> (u8, u8)
     // The contract of `drive` bounds how many bits of a frame the controller may have received.
     let _ = access.drive(None);
     match access.phase() {
-        Phase::Joining { row } => (0, *row),
-        Phase::Idle => (1, 0),
+        Phase::Idle => (0, 0),
+        Phase::Joining { row } => (1, *row),
         Phase::StuffedPart(front) => (2, front.len() as u8),
         Phase::CrcDelimiter(_) => (3, 0),
         Phase::AckSlot(_) => (4, 0),
@@ -85,8 +85,8 @@ fn phase_of(access: &PackedMac) -> (u8, u8)
 }
 
 /// The number of a role: 1 for the transmitter of the frame on the bus, 0 for a receiver.
-fn part_code(role: &Role) -> u8
-    ensures { result ≡ part_code_of (part_of role.now) }
+fn role_code(role: &Role) -> u8
+    ensures { result ≡ role_code_of (role_name role.now) }
 {
     match role {
         Role::Receiver => 0,
@@ -109,11 +109,11 @@ fn rule_code(rule: Rule) -> u8
         Rule::StuffPlaces => 7,
         Rule::FixedForm => 8,
         Rule::Acknowledgement => 9,
-        Rule::RefusedCheckSequence => 10,
+        Rule::RefusedCrcSequence => 10,
         Rule::DominantLastLevel => 11,
         Rule::ErrorFlags => 12,
         Rule::ErrorInAnOwnFlag => 13,
-        Rule::BehindAFlag => 14,
+        Rule::AfterAFlag => 14,
         Rule::Delimiter => 15,
         Rule::OverloadFlags => 16,
         Rule::OwnOverloadFrames => 17,

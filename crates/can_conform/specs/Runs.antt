@@ -18,7 +18,7 @@ use Rattle.can_conform.specs.declared.standing.Rule.{Rule}
 use Rattle.can_conform.specs.declared.timed.Timed.{Timed}
 use Rattle.can_conform.specs.declared.transcript.Counters.{Counters}
 use Rattle.can_conform.specs.declared.transcript.Ending.{Ending}
-use Rattle.can_conform.specs.Standings.{part_of, phase_name, phase_rule, rule_behind}
+use Rattle.can_conform.specs.Standings.{phase_name, phase_rule, role_name, rule_after}
 
 -- ---- one bit time
 
@@ -127,7 +127,7 @@ since_before s (suc t) = last_event (moment_at s t).event t (since_before s t)
 abbrev pub next_rule : Option TesterLevel → Script → ℕ → PortState → Rule → Rule
 next_rule None s t p now = now
 next_rule (Some x) s t p now =
-    rule_behind (told_event x (handed s t p)) (phase_name p.mac)
+    rule_after (told_event x (handed s t p)) (phase_name p.mac)
     (sees x (handed s t p)) (met x (handed s t p)).mac
 
 -- the rule that decides in bit time t
@@ -139,7 +139,7 @@ rule_before s (suc t) = next_rule (slice_get s.tester.items t) s t (before s t) 
 abbrev pub standing_before : Script → ℕ → Standing
 standing_before s t = record {
   phase = phase_name (before s t).mac;
-  part = part_of (before s t).mac.role;
+  role = role_name (before s t).mac.role;
   rule = rule_before s t;
   since = since_before s t;
 }

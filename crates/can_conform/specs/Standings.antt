@@ -1,4 +1,4 @@
--- The state of a controller before a bit time: its phase by name, its part in the frame, and the rule of docs/ACCESS.md
+-- The state of a controller before a bit time: its phase by name, its role in the frame, and the rule of docs/ACCESS.md
 -- that decides in the phase. (Bosch CAN 2.0 part B, sections 3.2 and 7)
 use Rattle.std.specs.Prelude.{ℕ, ◌==◌, if◌then◌else◌, length, Option, Some, None}
 use Rattle.can_frame.specs.declared.level.Level.{Level}
@@ -15,8 +15,8 @@ use Rattle.can_mac.specs.State.{MacPhase, MacState}
 use Rattle.can_mac.specs.Moves.{in_arbitration}
 use Rattle.can_conform.specs.declared.standing.PhaseName.{PhaseName}
 use Rattle.can_conform.specs.declared.standing.PhaseName.TheVariants as name
-use Rattle.can_conform.specs.declared.standing.Part.{Part}
-use Rattle.can_conform.specs.declared.standing.Part.TheVariants as part
+use Rattle.can_conform.specs.declared.standing.RoleName.{RoleName}
+use Rattle.can_conform.specs.declared.standing.RoleName.TheVariants as role
 use Rattle.can_conform.specs.declared.standing.Rule.{Rule}
 use Rattle.can_conform.specs.declared.standing.Rule.TheVariants as rule
 
@@ -25,15 +25,15 @@ use Rattle.can_conform.specs.declared.standing.Rule.TheVariants as rule
 abbrev pub phase_named : MacPhase → ℕ → PhaseName
 phase_named (Joining row) rows = name.Joining row
 phase_named Idle rows = name.Idle
-phase_named (StuffedPart front) rows = name.Stuffed (length front.unstuffed)
+phase_named (StuffedPart front) rows = name.StuffedPart (length front.unstuffed)
 phase_named (CrcDelimiter r) rows = name.CrcDelimiter
 phase_named (AckSlot r) rows = name.AckSlot
 phase_named (AckDelimiter r) rows = name.AckDelimiter
 phase_named (EndOfFrame r place) rows = name.EndOfFrame place
-phase_named (ErrorFlag place) rows = name.ActiveFlag place
+phase_named (ErrorFlag place) rows = name.ErrorFlag place
 phase_named (PassiveFlag last run unacknowledged) rows = name.PassiveFlag run
 phase_named (OverloadFlag place) rows = name.OverloadFlag place
-phase_named (AfterFlag first dominant) rows = name.BehindFlag dominant
+phase_named (AfterFlag first dominant) rows = name.AfterFlag dominant
 phase_named (Delimiter place) rows = name.Delimiter place
 phase_named (Intermission place) rows = name.Intermission place
 phase_named (Suspend place) rows = name.Suspend place
@@ -44,9 +44,9 @@ abbrev pub phase_name : MacState → PhaseName
 phase_name m = phase_named m.phase m.counters.occurrences
 
 -- the role of a controller in the frame on the bus
-abbrev pub part_of : Role → Part
-part_of Receiver = part.Receiver
-part_of (Sender f) = part.Sender
+abbrev pub role_name : Role → RoleName
+role_name Receiver = role.Receiver
+role_name (Sender f) = role.Sender
 
 -- the rule between start of frame and CRC sequence: stuff places for a receiver and at a stuff bit; for a transmitter
 -- arbitration, up to and including its RTR bit, and then the frame that it keeps
@@ -68,7 +68,7 @@ phase_rule (EndOfFrame r place) role = rule.FixedForm
 phase_rule (ErrorFlag place) role = rule.ErrorFlags
 phase_rule (PassiveFlag last run unacknowledged) role = rule.ErrorFlags
 phase_rule (OverloadFlag place) role = rule.OverloadFlags
-phase_rule (AfterFlag first dominant) role = rule.BehindAFlag
+phase_rule (AfterFlag first dominant) role = rule.AfterAFlag
 phase_rule (Delimiter place) role = rule.Delimiter
 phase_rule (Intermission place) role = rule.Intermission
 phase_rule (Suspend place) role = rule.SuspendTransmission
@@ -86,7 +86,7 @@ stuffed_error_rule Ack = rule.Arbitration
 abbrev pub ack_delimiter_rule : ErrorKind → Rule
 ack_delimiter_rule Bit = rule.FixedForm
 ack_delimiter_rule Stuff = rule.FixedForm
-ack_delimiter_rule Crc = rule.RefusedCheckSequence
+ack_delimiter_rule Crc = rule.RefusedCrcSequence
 ack_delimiter_rule Form = rule.FixedForm
 ack_delimiter_rule Ack = rule.FixedForm
 
@@ -95,15 +95,15 @@ ack_delimiter_rule Ack = rule.FixedForm
 abbrev pub error_rule : PhaseName → ErrorKind → Rule
 error_rule (name.Joining row) kind = rule.Joining
 error_rule name.Idle kind = rule.StartOfFrame
-error_rule (name.Stuffed n) kind = stuffed_error_rule kind
+error_rule (name.StuffedPart n) kind = stuffed_error_rule kind
 error_rule name.CrcDelimiter kind = rule.FixedForm
 error_rule name.AckSlot kind = rule.Acknowledgement
 error_rule name.AckDelimiter kind = ack_delimiter_rule kind
 error_rule (name.EndOfFrame place) kind = rule.FixedForm
-error_rule (name.ActiveFlag place) kind = rule.ErrorInAnOwnFlag
+error_rule (name.ErrorFlag place) kind = rule.ErrorInAnOwnFlag
 error_rule (name.PassiveFlag run) kind = rule.ErrorFlags
 error_rule (name.OverloadFlag place) kind = rule.ErrorInAnOwnFlag
-error_rule (name.BehindFlag dominant) kind = rule.BehindAFlag
+error_rule (name.AfterFlag dominant) kind = rule.AfterAFlag
 error_rule (name.Delimiter place) kind = rule.Delimiter
 error_rule (name.Intermission place) kind = rule.Intermission
 error_rule (name.Suspend place) kind = rule.SuspendTransmission
@@ -123,25 +123,25 @@ overload_rule (name.Delimiter place) x = last_level_rule rule.Delimiter x
 overload_rule (name.Intermission place) x = rule.Intermission
 overload_rule (name.Joining row) x = rule.OverloadFlags
 overload_rule name.Idle x = rule.OverloadFlags
-overload_rule (name.Stuffed n) x = rule.OverloadFlags
+overload_rule (name.StuffedPart n) x = rule.OverloadFlags
 overload_rule name.CrcDelimiter x = rule.OverloadFlags
 overload_rule name.AckSlot x = rule.OverloadFlags
 overload_rule name.AckDelimiter x = rule.OverloadFlags
-overload_rule (name.ActiveFlag place) x = rule.OverloadFlags
+overload_rule (name.ErrorFlag place) x = rule.OverloadFlags
 overload_rule (name.PassiveFlag run) x = rule.OverloadFlags
 overload_rule (name.OverloadFlag place) x = rule.OverloadFlags
-overload_rule (name.BehindFlag dominant) x = rule.OverloadFlags
+overload_rule (name.AfterFlag dominant) x = rule.OverloadFlags
 overload_rule (name.Suspend place) x = rule.OverloadFlags
 overload_rule (name.BusOff rows) x = rule.OverloadFlags
 
 -- the rule for the bit time after one with this event, in which the controller was in this phase and saw this level,
 -- and after which it is in state `next`: for the first level of a flag, the rule that started it
-abbrev pub rule_behind : Option Event → PhaseName → Level → MacState → Rule
-rule_behind None phase x next = phase_rule next.phase next.role
-rule_behind (Some (Sent f)) phase x next = phase_rule next.phase next.role
-rule_behind (Some (Received f)) phase x next = phase_rule next.phase next.role
-rule_behind (Some Lost) phase x next = phase_rule next.phase next.role
-rule_behind (Some (Error kind)) phase x next = error_rule phase kind
-rule_behind (Some Overload) phase x next = overload_rule phase x
-rule_behind (Some WentOff) phase x next = phase_rule next.phase next.role
-rule_behind (Some Recovered) phase x next = phase_rule next.phase next.role
+abbrev pub rule_after : Option Event → PhaseName → Level → MacState → Rule
+rule_after None phase x next = phase_rule next.phase next.role
+rule_after (Some (Sent f)) phase x next = phase_rule next.phase next.role
+rule_after (Some (Received f)) phase x next = phase_rule next.phase next.role
+rule_after (Some Lost) phase x next = phase_rule next.phase next.role
+rule_after (Some (Error kind)) phase x next = error_rule phase kind
+rule_after (Some Overload) phase x next = overload_rule phase x
+rule_after (Some WentOff) phase x next = phase_rule next.phase next.role
+rule_after (Some Recovered) phase x next = phase_rule next.phase next.role

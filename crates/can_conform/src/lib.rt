@@ -25,7 +25,7 @@
 //! | `bench.rt` | the test bench: the reference, played through a case | `specs/Runs.antt` |
 //! | `outlook.rt` | in which bit times frames or requests come | `specs/Walks.antt` |
 //! | `watch.rt` | the rule that decides in each bit time, and the last event before it | `specs/Runs.antt` |
-//! | `standing.rt` | [`Standing`]: phase, part and rule by name | `specs/Standings.antt` |
+//! | `standing.rt` | [`Standing`]: phase, role and rule by name | `specs/Standings.antt` |
 //! | `transcript.rt` | [`Transcript`], what a controller did, and whether its times rise | `specs/Transcripts.antt` |
 //! | `expecting.rt` | [`expect`] | `specs/Transcripts.antt` |
 //! | `judging.rt` | [`judge`], [`Verdict`] | `specs/Verdicts.antt` |
@@ -51,6 +51,6 @@ pub use laws::{one_transcript, one_verdict};
 pub use meeting::{Meeting, counters_of, ending_of, meet, started_node};
 pub use moment::Moment;
 pub use script::{Script, Start, TesterLevel};
-pub use standing::{Part, PhaseName, Rule, Standing, phase_rule};
+pub use standing::{PhaseName, RoleName, Rule, Standing, phase_rule};
 pub use timed::Timed;
 pub use transcript::{Counters, Ending, Transcript};

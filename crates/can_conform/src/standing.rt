@@ -1,7 +1,7 @@
-//! The state of the reference before a bit time: its phase, its part in the frame, and the rule of docs/ACCESS.md that
+//! The state of the reference before a bit time: its phase, its role in the frame, and the rule of docs/ACCESS.md that
 //! decides in the phase.
 ghost use Rattle.std.specs.Prelude.{◌≡◌};
-ghost use Rattle.can_conform.specs.Standings.{error_rule as error_rule_of, overload_rule as overload_rule_of, part_of, phase_name as phase_name_of, phase_named as phase_named_of, phase_rule as phase_rule_of, rule_behind as rule_behind_of, stuffed_rule as stuffed_rule_of};
+ghost use Rattle.can_conform.specs.Standings.{error_rule as error_rule_of, overload_rule as overload_rule_of, phase_name as phase_name_of, phase_named as phase_named_of, phase_rule as phase_rule_of, role_name as role_name_of, rule_after as rule_after_of, stuffed_rule as stuffed_rule_of};
 
 use crate::timed::Timed;
 use can_code::{FrameBits, Front, Place, rtr_place};
@@ -15,20 +15,20 @@ pub enum PhaseName {
     Joining(u8),
     Idle,
     /// The number of unstuffed levels of the frame, with its start of frame.
-    Stuffed(usize),
+    StuffedPart(usize),
     CrcDelimiter,
     AckSlot,
     AckDelimiter,
     /// 0 to 6.
     EndOfFrame(u8),
     /// An active error flag, 0 to 5.
-    ActiveFlag(u8),
+    ErrorFlag(u8),
     /// A passive error flag: the last n levels are equal, 0 to 5.
     PassiveFlag(u8),
     /// 0 to 5.
     OverloadFlag(u8),
     /// After a flag: the number of dominant levels, modulo eight.
-    BehindFlag(u8),
+    AfterFlag(u8),
     /// The delimiter after a flag, 1 to 7.
     Delimiter(u8),
     /// 0 to 2.
@@ -41,7 +41,7 @@ pub enum PhaseName {
 
 /// The role of the reference in the frame on the bus: transmitter or receiver.
 #[derive(Clone, Copy, Debug, PartialEq, Eq)]
-pub enum Part {
+pub enum RoleName {
     Receiver,
     Sender,
 }
@@ -59,11 +59,11 @@ pub enum Rule {
     StuffPlaces,
     FixedForm,
     Acknowledgement,
-    RefusedCheckSequence,
+    RefusedCrcSequence,
     DominantLastLevel,
     ErrorFlags,
     ErrorInAnOwnFlag,
-    BehindAFlag,
+    AfterAFlag,
     Delimiter,
     OverloadFlags,
     OwnOverloadFrames,
@@ -73,7 +73,7 @@ pub enum Rule {
 #[derive(Clone, Copy, Debug)]
 pub struct Standing {
     pub phase: PhaseName,
-    pub part: Part,
+    pub role: RoleName,
     pub rule: Rule,
     /// Its last event before that bit time, if there was one.
     pub since: Option<Timed<Event>>,
@@ -93,15 +93,15 @@ fn phase_named<B: FrameBits>(phase: &Phase<Front<B>>, rows: u8) -> PhaseName
     match phase {
         Phase::Joining { row } => PhaseName::Joining(*row),
         Phase::Idle => PhaseName::Idle,
-        Phase::StuffedPart(front) => PhaseName::Stuffed(front.len()),
+        Phase::StuffedPart(front) => PhaseName::StuffedPart(front.len()),
         Phase::CrcDelimiter(_) => PhaseName::CrcDelimiter,
         Phase::AckSlot(_) => PhaseName::AckSlot,
         Phase::AckDelimiter(_) => PhaseName::AckDelimiter,
         Phase::EndOfFrame { place, .. } => PhaseName::EndOfFrame(*place),
-        Phase::ErrorFlag { place } => PhaseName::ActiveFlag(*place),
+        Phase::ErrorFlag { place } => PhaseName::ErrorFlag(*place),
         Phase::PassiveFlag { run, .. } => PhaseName::PassiveFlag(*run),
         Phase::OverloadFlag { place } => PhaseName::OverloadFlag(*place),
-        Phase::AfterFlag { dominant, .. } => PhaseName::BehindFlag(*dominant),
+        Phase::AfterFlag { dominant, .. } => PhaseName::AfterFlag(*dominant),
         Phase::Delimiter { place } => PhaseName::Delimiter(*place),
         Phase::Intermission { place } => PhaseName::Intermission(*place),
         Phase::Suspend { place } => PhaseName::Suspend(*place),
@@ -110,12 +110,12 @@ fn phase_named<B: FrameBits>(phase: &Phase<Front<B>>, rows: u8) -> PhaseName
 }
 
 /// The role of a controller in the frame on the bus.
-pub(crate) fn part_in(role: &Role) -> Part
-    ensures { result ≡ part_of role.now }
+pub(crate) fn role_name(role: &Role) -> RoleName
+    ensures { result ≡ role_name_of role.now }
 {
     match role {
-        Role::Receiver => Part::Receiver,
-        Role::Sender(_) => Part::Sender,
+        Role::Receiver => RoleName::Receiver,
+        Role::Sender(_) => RoleName::Sender,
     }
 }
 
@@ -133,7 +133,7 @@ pub fn phase_rule<B: FrameBits>(phase: &Phase<Front<B>>, role: &Role) -> Rule
         }
         Phase::ErrorFlag { .. } | Phase::PassiveFlag { .. } => Rule::ErrorFlags,
         Phase::OverloadFlag { .. } => Rule::OverloadFlags,
-        Phase::AfterFlag { .. } => Rule::BehindAFlag,
+        Phase::AfterFlag { .. } => Rule::AfterAFlag,
         Phase::Delimiter { .. } => Rule::Delimiter,
         Phase::Intermission { .. } => Rule::Intermission,
         Phase::Suspend { .. } => Rule::SuspendTransmission,
@@ -163,16 +163,16 @@ fn error_rule(phase: PhaseName, kind: ErrorKind) -> Rule
     match phase {
         PhaseName::Joining(_) => Rule::Joining,
         PhaseName::Idle => Rule::StartOfFrame,
-        PhaseName::Stuffed(_) if kind == ErrorKind::Stuff => Rule::StuffPlaces,
-        PhaseName::Stuffed(_) => Rule::Arbitration,
+        PhaseName::StuffedPart(_) if kind == ErrorKind::Stuff => Rule::StuffPlaces,
+        PhaseName::StuffedPart(_) => Rule::Arbitration,
         PhaseName::AckSlot => Rule::Acknowledgement,
-        PhaseName::AckDelimiter if kind == ErrorKind::Crc => Rule::RefusedCheckSequence,
+        PhaseName::AckDelimiter if kind == ErrorKind::Crc => Rule::RefusedCrcSequence,
         PhaseName::CrcDelimiter | PhaseName::AckDelimiter | PhaseName::EndOfFrame(_) => {
             Rule::FixedForm
         }
-        PhaseName::ActiveFlag(_) | PhaseName::OverloadFlag(_) => Rule::ErrorInAnOwnFlag,
+        PhaseName::ErrorFlag(_) | PhaseName::OverloadFlag(_) => Rule::ErrorInAnOwnFlag,
         PhaseName::PassiveFlag(_) => Rule::ErrorFlags,
-        PhaseName::BehindFlag(_) => Rule::BehindAFlag,
+        PhaseName::AfterFlag(_) => Rule::AfterAFlag,
         PhaseName::Delimiter(_) => Rule::Delimiter,
         PhaseName::Intermission(_) => Rule::Intermission,
         PhaseName::Suspend(_) => Rule::SuspendTransmission,
@@ -197,13 +197,13 @@ fn overload_rule(phase: PhaseName, seen: Level) -> Rule
 
 /// The rule for the next bit time of a controller that had this event: for the first level of a flag, the rule that
 /// started it. The controller was in this phase before, and saw this level.
-pub(crate) fn rule_behind<B: FrameBits>(
+pub(crate) fn rule_after<B: FrameBits>(
     event: &Option<Event>,
     phase: PhaseName,
     seen: Level,
     next: &MediumAccess<B>,
 ) -> Rule
-    ensures { result ≡ rule_behind_of event.now phase seen next.now }
+    ensures { result ≡ rule_after_of event.now phase seen next.now }
 {
     match event {
         Some(Event::Error(kind)) => error_rule(phase, *kind),

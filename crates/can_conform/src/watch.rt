@@ -1,12 +1,12 @@
 //! The rule that decides in each bit time of a case, and the last event before it.
 ghost use Rattle.std.specs.Prelude.{◌≡◌, ◌+◌, None};
 ghost use Rattle.can_conform.specs.Runs.{before, last_event as last_event_of, moment_at, rule_before, since_before};
-ghost use Rattle.can_conform.specs.Standings.{part_of, phase_name as phase_name_of, phase_rule as phase_rule_of};
+ghost use Rattle.can_conform.specs.Standings.{phase_name as phase_name_of, phase_rule as phase_rule_of, role_name as role_name_of};
 
 use crate::moment::Moment;
 use crate::script::Script;
 use crate::standing::{
-    Part, PhaseName, Rule, Standing, part_in, phase_name, phase_rule, rule_behind,
+    PhaseName, RoleName, Rule, Standing, phase_name, phase_rule, role_name, rule_after,
 };
 use crate::timed::Timed;
 use can_code::FrameBits;
@@ -17,17 +17,17 @@ use can_mac::{Event, MediumAccess};
 #[derive(Clone, Copy)]
 pub(crate) struct Place {
     phase: PhaseName,
-    part: Part,
+    role: RoleName,
 }
 
 /// The phase and the role of a controller.
 pub(crate) fn place_of<B: FrameBits>(access: &MediumAccess<B>) -> Place
     ensures phase { result.phase ≡ phase_name_of access.now }
-    ensures part { result.part ≡ part_of access.now.role }
+    ensures role { result.role ≡ role_name_of access.now.role }
 {
     Place {
         phase: phase_name(access),
-        part: part_in(access.role()),
+        role: role_name(access.role()),
     }
 }
 
@@ -72,20 +72,20 @@ impl Watch {
             return;
         };
         let seen = tester.seen_by(moment.drove.unwrap_or(Level::Recessive));
-        self.rule = rule_behind(&moment.event, place.phase, seen, next);
+        self.rule = rule_after(&moment.event, place.phase, seen, next);
         note_event(&mut self.since, &moment.event, time);
     }
 
     /// The state of the reference, given its phase and role.
     pub(crate) fn standing(&self, place: Place) -> Standing
         ensures phase { result.phase ≡ place.phase }
-        ensures part { result.part ≡ place.part }
+        ensures role { result.role ≡ place.role }
         ensures rule { result.rule ≡ self.now.rule }
         ensures since { result.since ≡ self.now.since }
     {
         Standing {
             phase: place.phase,
-            part: place.part,
+            role: place.role,
             rule: self.rule,
             since: self.since,
         }

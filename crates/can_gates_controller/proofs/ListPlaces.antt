@@ -171,12 +171,12 @@ module _ (a f t r last : List Literal) (five : length a ≡ 5) (fields : length 
 
 module _ (k : OutputPorts) where
   abbrev first : List Literal
-  first = k.drive ∷ nibble_before k.told []
+  first = k.drive ∷ nibble_before k.event_code []
 
   abbrev final : List Literal
   final = k.passive ∷ k.off ∷ k.legal ∷ []
 
-  pub out_first : (p : ℕ) → p < 5 → get_or (k.drive ∷ k.told.ones ∷ k.told.twos ∷ k.told.fours ∷ k.told.eights ∷ []) p never ≡ get_or (output_list k) p never
+  pub out_first : (p : ℕ) → p < 5 → get_or (k.drive ∷ k.event_code.ones ∷ k.event_code.twos ∷ k.event_code.fours ∷ k.event_code.eights ∷ []) p never ≡ get_or (output_list k) p never
   out_first p h = in_first first (field_list k.frame) (placed 9 k.tec) (placed 8 k.rec) final refl (length-fields k.frame) (length-placed 9 k.tec) (length-placed 8 k.rec) p h
 
   pub out_frame : (p : ℕ) → 5 ≤ p → p < 104 → get_or (field_list k.frame) (p - 5) never ≡ get_or (output_list k) p never

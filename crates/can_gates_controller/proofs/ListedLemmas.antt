@@ -247,35 +247,35 @@ module _ (v : ℕ → Bool) where
   unfolding nibble
   clear_nibble n e1 e2 e3 e4 = rw (e1, e2, e3, e4) refl
 
-  phase_nibble : (n : Nibble) (joins : Bool) → value v n.ones ≡ joins → value v n.twos ≡ false → value v n.fours ≡ false → value v n.eights ≡ false → nibble v n ≡ cond joins 1 0
+  phase_nibble : (n : Nibble) (integrating : Bool) → value v n.ones ≡ integrating → value v n.twos ≡ false → value v n.fours ≡ false → value v n.eights ≡ false → nibble v n ≡ cond integrating 1 0
   unfolding nibble
   phase_nibble n true e1 e2 e3 e4 = rw (e1, e2, e3, e4) refl
   phase_nibble n false e1 e2 e3 e4 = rw (e1, e2, e3, e4) refl
 
-  clear_wires : (a : Wires) (joins : Bool) → value v a.phase.ones ≡ joins → ((p : ℕ) → 1 ≤ p → p < 20 → value v (get_or (wires_list a) p never) ≡ false) → held_numbers (shown v a) ≡ reset_numbers (cond joins 1 0)
+  clear_wires : (a : Wires) (integrating : Bool) → value v a.phase.ones ≡ integrating → ((p : ℕ) → 1 ≤ p → p < 20 → value v (get_or (wires_list a) p never) ≡ false) → held_numbers (shown v a) ≡ reset_numbers (cond integrating 1 0)
   unfolding shown
-  clear_wires a joins first t =
-      let phase = phase_nibble a.phase joins first (t 1 (omega arith) (omega arith)) (t 2 (omega arith) (omega arith)) (t 3 (omega arith) (omega arith)) in
+  clear_wires a integrating first t =
+      let phase = phase_nibble a.phase integrating first (t 1 (omega arith) (omega arith)) (t 2 (omega arith) (omega arith)) (t 3 (omega arith) (omega arith)) in
       let place = clear_nibble a.place (t 4 (omega arith) (omega arith)) (t 5 (omega arith) (omega arith)) (t 6 (omega arith) (omega arith)) (t 7 (omega arith) (omega arith)) in
       let pending = clear_nibble a.pending (t 12 (omega arith) (omega arith)) (t 13 (omega arith) (omega arith)) (t 14 (omega arith) (omega arith)) (t 15 (omega arith) (omega arith)) in
       let used = clear_nibble a.used (t 16 (omega arith) (omega arith)) (t 17 (omega arith) (omega arith)) (t 18 (omega arith) (omega arith)) (t 19 (omega arith) (omega arith)) in
-      held_is (shown v a) (cond joins 1 0) phase place (t 8 (omega arith) (omega arith)) (t 9 (omega arith) (omega arith)) (t 10 (omega arith) (omega arith)) (t 11 (omega arith) (omega arith)) pending used
+      held_is (shown v a) (cond integrating 1 0) phase place (t 8 (omega arith) (omega arith)) (t 9 (omega arith) (omega arith)) (t 10 (omega arith) (omega arith)) (t 11 (omega arith) (omega arith)) pending used
     where
       held_is : (m : Numbers) (n : ℕ) → m.phase ≡ n → m.place ≡ 0 → m.last ≡ false → m.unacknowledged ≡ false → m.first ≡ false → m.sender ≡ false → m.pending ≡ 0 → m.used ≡ 0 → held_numbers m ≡ reset_numbers n
       held_is m n e1 e2 e3 e4 e5 e6 e7 e8 = rw (e1, e2, e3, e4, e5, e6, e7, e8) refl
 
-  pub list_resets : (k : Registers) (joins : Bool) → ((p : ℕ) → p < 277 → value v (get_or (register_list k) p never) ≡ (eqb p 0 && joins)) → IsReset v k joins
-  list_resets k joins t =
+  pub list_resets : (k : Registers) (integrating : Bool) → ((p : ℕ) → p < 277 → value v (get_or (register_list k) p never) ≡ (eqb p 0 && integrating)) → IsReset v k integrating
+  list_resets k integrating t =
       let a = k.controller in
       let two : length (wires_list a.wires ++ counters_list a.counters) ≡ 44 = omega (arith, length-append (wires_list a.wires) (counters_list a.counters), length-counters a.counters) in
-      let early : (p : ℕ) → p < 44 → value v (get_or (wires_list a.wires ++ counters_list a.counters) p never) ≡ (eqb p 0 && joins) =
+      let early : (p : ℕ) → p < 44 → value v (get_or (wires_list a.wires ++ counters_list a.counters) p never) ≡ (eqb p 0 && integrating) =
       λ p h. ap (value v) (sym (get_or_append_left (wires_list a.wires ++ counters_list a.counters) (heard_list k.heard) never p (omega (arith, h, two))) ∙ sym (get_or_append_left ((wires_list a.wires ++ counters_list a.counters) ++ heard_list k.heard) (placed 103 k.own) never p (omega (arith, h, two, length-append (wires_list a.wires ++ counters_list a.counters) (heard_list k.heard))))) ∙ t p (omega (arith, h)) in
       let counters : Clear 24 (counters_list a.counters) = back_clear 20 24 (wires_list a.wires) (counters_list a.counters) refl (λ p low h. early p h ∙ rw (ne_eqb p 0 (λ e. absurd (omega (arith, e, low)))) refl) in
-      let wires : (p : ℕ) → p < 20 → value v (get_or (wires_list a.wires) p never) ≡ (eqb p 0 && joins) = λ p h. ap (value v) (sym (get_or_append_left (wires_list a.wires) (counters_list a.counters) never p h)) ∙ early p (omega (arith, h)) in
+      let wires : (p : ℕ) → p < 20 → value v (get_or (wires_list a.wires) p never) ≡ (eqb p 0 && integrating) = λ p h. ap (value v) (sym (get_or_append_left (wires_list a.wires) (counters_list a.counters) never p h)) ∙ early p (omega (arith, h)) in
       let sizes : length (placed 9 a.counters.tec ++ placed 8 a.counters.rec) ≡ 17 = omega (arith, length-append (placed 9 a.counters.tec) (placed 8 a.counters.rec), length-placed 9 a.counters.tec, length-placed 8 a.counters.rec) in
       let both = front_clear 17 7 (placed 9 a.counters.tec ++ placed 8 a.counters.rec) (placed 7 a.counters.occurrences) sizes counters in
       record {
-        wires = clear_wires a.wires joins (wires 0 (omega arith)) (λ p low h. wires p h ∙ rw (ne_eqb p 0 (λ e. absurd (omega (arith, e, low)))) refl);
+        wires = clear_wires a.wires integrating (wires 0 (omega arith)) (λ p low h. wires p h ∙ rw (ne_eqb p 0 (λ e. absurd (omega (arith, e, low)))) refl);
         tec = number_nothing a.counters.tec 9 a.counters.widths.0 (placed_clear 9 a.counters.tec (front_clear 9 8 (placed 9 a.counters.tec) (placed 8 a.counters.rec) (length-placed 9 a.counters.tec) both));
         rec = number_nothing a.counters.rec 8 a.counters.widths.1 (placed_clear 8 a.counters.rec (back_clear 9 8 (placed 9 a.counters.tec) (placed 8 a.counters.rec) (length-placed 9 a.counters.tec) (λ p low h. both p h)));
         occurrences = number_nothing a.counters.occurrences 7 a.counters.widths.2 (placed_clear 7 a.counters.occurrences (back_clear 17 7 (placed 9 a.counters.tec ++ placed 8 a.counters.rec) (placed 7 a.counters.occurrences) sizes (λ p low h. counters p h)));

@@ -5,20 +5,20 @@ use Rattle.can_frame.specs.declared.level.Level.TheVariants.{Dominant, Recessive
 use Rattle.can_mac.specs.declared.phase.Phase.TheVariants.{Joining}
 use Rattle.can_mac.specs.State.{idle, joining, starting}
 use Rattle.can_mac.specs.Machine.{mac_step, holding}
-use Rattle.can_gates_controller.specs.Steps.{ControllerStep, asked, state_behind, told_in, state_before}
+use Rattle.can_gates_controller.specs.Steps.{ControllerStep, asked, state_behind, event_in, state_before}
 
 -- a bit time in which this level is seen
 abbrev passing : Level → ControllerStep
-passing level = record { reset = false; joins = false; enable = true; wish = None; waiting = None; level = level }
+passing level = record { reset = false; integrating = false; enable = true; wish = None; waiting = None; level = level }
 
 -- at a reset no other input has an effect
 reset_idles : state_behind joining (record (passing Recessive) { reset = true }) ≡ idle
 reset_idles = refl
 
-reset_joins : state_behind idle (record (passing Dominant) { reset = true; joins = true }) ≡ joining
-reset_joins = refl
+reset_integrating : state_behind idle (record (passing Dominant) { reset = true; integrating = true }) ≡ joining
+reset_integrating = refl
 
-reset_tells_nothing : told_in idle (record (passing Dominant) { reset = true }) ≡ None
+reset_tells_nothing : event_in idle (record (passing Dominant) { reset = true }) ≡ None
 reset_tells_nothing = refl
 
 -- without a bit time nothing changes, also with a request

@@ -29,27 +29,27 @@ use Rattle.can_gates_controller.proofs.ListedLemmas.{list_takes, list_resets}
 
 -- What the registers take.
 
-pub merged : (reset joins enable first next held : Bool) → ((((enable && not reset) && next) || ((not enable && not reset) && held)) || (first && (reset && joins))) ≡ cond reset (first && joins) (cond enable next held)
-merged true joins true true next held = refl
-merged true joins true false next held = refl
-merged true joins false true next held = refl
-merged true joins false false next held = refl
-merged false joins true true true held = refl
-merged false joins true true false held = refl
-merged false joins true false true held = refl
-merged false joins true false false held = refl
-merged false joins false true next true = refl
-merged false joins false true next false = refl
-merged false joins false false next true = refl
-merged false joins false false next false = refl
+pub merged : (reset integrating enable first next held : Bool) → ((((enable && not reset) && next) || ((not enable && not reset) && held)) || (first && (reset && integrating))) ≡ cond reset (first && integrating) (cond enable next held)
+merged true integrating true true next held = refl
+merged true integrating true false next held = refl
+merged true integrating false true next held = refl
+merged true integrating false false next held = refl
+merged false integrating true true true held = refl
+merged false integrating true true false held = refl
+merged false integrating true false true held = refl
+merged false integrating true false false held = refl
+merged false integrating false true next true = refl
+merged false integrating false true next false = refl
+merged false integrating false false next true = refl
+merged false integrating false false next false = refl
 
 pub not_first : (b : Bool) → false ≡ (b && false)
 not_first true = refl
 not_first false = refl
 
-module _ (v w : ℕ → Bool) (held next : Registers) (taken : List Literal) (reset joins enable : Bool) (is : (p : ℕ) → p < 277 → value v (get_or taken p never) ≡ taken_at reset joins enable p (value v (get_or (register_list next) p never)) (value v (get_or (register_list held) p never))) (takes : TakesLevels v w 277 (register_list held) taken) where
-  pub taken_reset : reset ≡ true → HoldsAll w held (cond joins joining idle)
-  taken_reset e = reset_holds w held joins (list_resets w held joins (λ p h. takes p h ∙ is p h ∙ rw e refl))
+module _ (v w : ℕ → Bool) (held next : Registers) (taken : List Literal) (reset integrating enable : Bool) (is : (p : ℕ) → p < 277 → value v (get_or taken p never) ≡ taken_at reset integrating enable p (value v (get_or (register_list next) p never)) (value v (get_or (register_list held) p never))) (takes : TakesLevels v w 277 (register_list held) taken) where
+  pub taken_reset : reset ≡ true → HoldsAll w held (cond integrating joining idle)
+  taken_reset e = reset_holds w held integrating (list_resets w held integrating (λ p h. takes p h ∙ is p h ∙ rw e refl))
 
   taken_time : (m : MacState) → reset ≡ false → enable ≡ true → HoldsAll v next m → HoldsAll w held m
   taken_time m e f h = takes_holds v w held next m (list_takes v w held next (λ p l. takes p l ∙ is p l ∙ rw (e, f) refl)) h
@@ -58,10 +58,10 @@ module _ (v w : ℕ → Bool) (held next : Registers) (taken : List Literal) (re
   taken_rest m e f h = takes_holds v w held held m (list_takes v w held held (λ p l. takes p l ∙ is p l ∙ rw (e, f) refl)) h
 
   -- by what the step is
-  pub taken_behind : (m next_is : MacState) → HoldsAll v held m → HoldsAll v next next_is → HoldsAll w held (cond reset (cond joins joining idle) (cond enable next_is m))
+  pub taken_behind : (m next_is : MacState) → HoldsAll v held m → HoldsAll v next next_is → HoldsAll w held (cond reset (cond integrating joining idle) (cond enable next_is m))
   taken_behind m next_is h hn = by reset enable refl refl
     where
-      by : (a b : Bool) → reset ≡ a → enable ≡ b → HoldsAll w held (cond a (cond joins joining idle) (cond b next_is m))
+      by : (a b : Bool) → reset ≡ a → enable ≡ b → HoldsAll w held (cond a (cond integrating joining idle) (cond b next_is m))
       by true b e f = taken_reset e
       by false true e f = taken_time next_is e f hn
       by false false e f = taken_rest m e f h
@@ -124,11 +124,11 @@ drives_asked (Some n) m waiting = by (nat_le n 2)
     by true = refl
     by false = refl
 
-pub told_is : (reset enable : Bool) (e : Option Event) → cond (enable && not reset) (event_code e) 0 ≡ event_code (cond reset None (cond enable e None))
-told_is true true e = refl
-told_is true false e = refl
-told_is false true e = refl
-told_is false false e = refl
+pub event_is : (reset enable : Bool) (e : Option Event) → cond (enable && not reset) (event_code e) 0 ≡ event_code (cond reset None (cond enable e None))
+event_is true true e = refl
+event_is true false e = refl
+event_is false true e = refl
+event_is false false e = refl
 
 pub frame_is : (reset enable : Bool) (e : Option Event) (f : Parts) → frame_told (cond reset None (cond enable e None)) ≡ Some f → frame_told e ≡ Some f
 frame_is true enable e f h = cc h

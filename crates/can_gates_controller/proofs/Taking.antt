@@ -39,8 +39,8 @@ pub record Takes (before now : ℕ → Bool) (held next : Registers) : Type 0 wh
   pub own : TakesLevels before now 103 held.own next.own
 
 -- all registers of the controller are 0, except that the lowest bit of its phase is whether it joins; those of frames may have any value
-pub record IsReset (v : ℕ → Bool) (k : Registers) (joins : Bool) : Type 0 where
-  pub wires : held_numbers (shown v k.controller.wires) ≡ reset_numbers (cond joins 1 0)
+pub record IsReset (v : ℕ → Bool) (k : Registers) (integrating : Bool) : Type 0 where
+  pub wires : held_numbers (shown v k.controller.wires) ≡ reset_numbers (cond integrating 1 0)
   pub tec : number v k.controller.counters.tec ≡ 0
   pub rec : number v k.controller.counters.rec ≡ 0
   pub occurrences : number v k.controller.counters.occurrences ≡ 0
@@ -76,7 +76,7 @@ takes_holds v w held next m t h = record {
   own = record { levels = λ f e role p l. t.own p l ∙ h.own.levels f e role p l; sent = h.own.sent };
 }
 
-pub reset_holds : (v : ℕ → Bool) (k : Registers) (joins : Bool) → IsReset v k joins → HoldsAll v k (cond joins joining idle)
+pub reset_holds : (v : ℕ → Bool) (k : Registers) (integrating : Bool) → IsReset v k integrating → HoldsAll v k (cond integrating joining idle)
 unfolding shown
 reset_holds v k true r = record {
   is = IsMac-joining;

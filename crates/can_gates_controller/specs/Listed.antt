@@ -43,11 +43,11 @@ field_list k = k.extended ∷ k.remote ∷ (placed 29 k.identifier ++ nibble_bef
 
 -- all inputs
 abbrev pub input_list : InputPorts → List Literal
-input_list k = k.reset ∷ k.joins ∷ k.enable ∷ k.bus ∷ k.hold ∷ k.wish_ones ∷ k.wish_twos ∷ k.waits ∷ field_list k.frame
+input_list k = k.reset ∷ k.integrating ∷ k.enable ∷ k.bus ∷ k.overload_request ∷ k.overload_count_ones ∷ k.overload_count_twos ∷ k.waits ∷ field_list k.frame
 
 -- all outputs
 abbrev pub output_list : OutputPorts → List Literal
-output_list k = ((((k.drive ∷ nibble_before k.told []) ++ field_list k.frame) ++ placed 9 k.tec) ++ placed 8 k.rec) ++ (k.passive ∷ k.off ∷ k.legal ∷ [])
+output_list k = ((((k.drive ∷ nibble_before k.event_code []) ++ field_list k.frame) ++ placed 9 k.tec) ++ placed 8 k.rec) ++ (k.passive ∷ k.off ∷ k.legal ∷ [])
 
 -- n literals are the signals from this one on
 abbrev pub AreSignals : ℕ → ℕ → List Literal → Type 0

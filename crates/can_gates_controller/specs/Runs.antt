@@ -16,15 +16,15 @@ use Rattle.can_gates_controller.specs.declared.design.Design.{Design}
 use Rattle.can_gates_controller.specs.Whole.{HoldsAll}
 use Rattle.can_gates_controller.specs.Fields.{frame_in, HoldsFields, frame_told}
 use Rattle.can_gates_controller.specs.Listed.{AreSignals, register_list, input_list, output_list}
-use Rattle.can_gates_controller.specs.Steps.{ControllerStep, state_behind, told_in, state_before}
+use Rattle.can_gates_controller.specs.Steps.{ControllerStep, state_behind, event_in, state_before}
 
 -- the step that these inputs are
 abbrev pub step_in : (ℕ → Bool) → InputPorts → ControllerStep
 step_in v k = record {
   reset = value v k.reset;
-  joins = value v k.joins;
+  integrating = value v k.integrating;
   enable = value v k.enable;
-  wish = if value v k.hold then Some (number v (k.wish_ones ∷ k.wish_twos ∷ [])) else None;
+  wish = if value v k.overload_request then Some (number v (k.overload_count_ones ∷ k.overload_count_twos ∷ [])) else None;
   waiting = if value v k.waits then Some (frame_in v k.frame) else None;
   level = level_from (value v k.bus);
 }
@@ -33,8 +33,8 @@ step_in v k = record {
 -- bus-off
 pub record Shows (v : ℕ → Bool) (k : OutputPorts) (m : MacState) (s : ControllerStep) : Type 0 where
   pub drive : value v k.drive ≡ is_recessive (mac_drives m s.waiting)
-  pub told : nibble v k.told ≡ event_code (told_in m s)
-  pub frame : (f : Parts) → frame_told (told_in m s) ≡ Some f → HoldsFields v k.frame f
+  pub event : nibble v k.event_code ≡ event_code (event_in m s)
+  pub frame : (f : Parts) → frame_told (event_in m s) ≡ Some f → HoldsFields v k.frame f
   pub tec : number v k.tec ≡ m.counters.tec
   pub rec : number v k.rec ≡ m.counters.rec
   pub passive : value v k.passive ≡ is_passive m.counters
@@ -74,7 +74,7 @@ abbrev pub Resets : Design → Type 0
 Resets d =
     (before now : ℕ → Bool) → Keeps before d.circuit → value before d.inputs.reset ≡ true →
     StepsRegisters d.circuit d.registers.items before now →
-    HoldsAll now d.held (if value before d.inputs.joins then joining else idle)
+    HoldsAll now d.held (if value before d.inputs.integrating then joining else idle)
 
 -- in each assignment that keeps the circuit, for any controller in the registers and any inputs, the outputs are those of the machine, and one step
 -- later the registers hold its next state

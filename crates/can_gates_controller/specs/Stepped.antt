@@ -24,13 +24,13 @@ TakesLevels before now places held next = (p : ℕ) → p < places → value_at 
 -- the next value of the register with this index: at a reset 0, except that the first is whether the controller joins; otherwise that after the bit
 -- time, or the present one if none passes
 abbrev pub taken_at : Bool → Bool → Bool → ℕ → Bool → Bool → Bool
-taken_at reset joins enable place next held = if reset then place == 0 && joins else (if enable then next else held)
+taken_at reset integrating enable place next held = if reset then place == 0 && integrating else (if enable then next else held)
 
 -- at a reset, registers that take these literals hold an idle controller, or a joining one
 abbrev pub TakesReset : (ℕ → Bool) → InputPorts → Registers → List Literal → Type 0
 TakesReset before k held taken =
     (now : ℕ → Bool) → value before k.reset ≡ true → TakesLevels before now 277 (register_list held) taken →
-    HoldsAll now held (if value before k.joins then joining else idle)
+    HoldsAll now held (if value before k.integrating then joining else idle)
 
 -- registers that take these literals hold the next state, and the outputs are those of the machine
 abbrev pub TakesStep : (ℕ → Bool) → InputPorts → OutputPorts → Registers → List Literal → Type 0

@@ -10,7 +10,7 @@ use Rattle.can_mac.specs.Machine.{mac_step, holding}
 -- if any; the pending frame; and the sampled level
 pub record ControllerStep : Type 0 where
   pub reset : Bool
-  pub joins : Bool
+  pub integrating : Bool
   pub enable : Bool
   pub wish : Option ℕ
   pub waiting : Option Parts
@@ -27,11 +27,11 @@ step_time m s = mac_step (asked s.wish m) s.waiting s.level
 
 -- the state after a step: after a reset an idle controller, or a joining one; the same if no bit time passes
 abbrev pub state_behind : MacState → ControllerStep → MacState
-state_behind m s = if s.reset then (if s.joins then joining else idle) else (if s.enable then (step_time m s).0 else m)
+state_behind m s = if s.reset then (if s.integrating then joining else idle) else (if s.enable then (step_time m s).0 else m)
 
 -- the event of a step: none if no bit time passes
-abbrev pub told_in : MacState → ControllerStep → Option Event
-told_in m s = if s.reset then None else (if s.enable then (step_time m s).1 else None)
+abbrev pub event_in : MacState → ControllerStep → Option Event
+event_in m s = if s.reset then None else (if s.enable then (step_time m s).1 else None)
 
 -- the state before step t
 abbrev pub state_before : MacState → (ℕ → ControllerStep) → ℕ → MacState

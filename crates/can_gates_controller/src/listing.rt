@@ -112,9 +112,9 @@ fn output_at(k: &OutputPorts, place: usize) -> Literal
     ensures { result ≡ slice_index_or (output_list k.now) place FALSE }
 {
     if place < 5 {
-        let told = k.told;
+        let event = k.event_code;
         return literal_at(
-            &[k.drive, told.ones, told.twos, told.fours, told.eights],
+            &[k.drive, event.ones, event.twos, event.fours, event.eights],
             place,
         );
     }

@@ -9,17 +9,17 @@ pub struct InputPorts {
     /// Whether the registers take an idle or joining controller, whatever the other inputs are.
     pub reset: Literal,
     /// Whether it is a joining one.
-    pub joins: Literal,
+    pub integrating: Literal,
     /// Whether a bit time passes. If not, nothing changes.
     pub enable: Literal,
     /// Whether the sampled level is recessive.
     pub bus: Literal,
     /// Whether own overload frames are requested, before the bit time.
-    pub hold: Literal,
+    pub overload_request: Literal,
     /// How many, 0 to 2: the lower bit. A request for 3 is refused, and changes nothing.
-    pub wish_ones: Literal,
+    pub overload_count_ones: Literal,
     /// The higher bit.
-    pub wish_twos: Literal,
+    pub overload_count_twos: Literal,
     /// Whether a frame is pending.
     pub waits: Literal,
     /// That frame.
@@ -32,7 +32,7 @@ pub struct OutputPorts {
     /// Whether the controller drives recessive.
     pub drive: Literal,
     /// The number of its event. (can_gates_mac's `specs/Numbers.antt`)
-    pub told: Nibble,
+    pub event_code: Nibble,
     /// The frame of the event, if it has one.
     pub frame: Fields,
     /// TEC.

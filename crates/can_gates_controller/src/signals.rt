@@ -38,12 +38,12 @@ pub(crate) fn input_ports() -> InputPorts
     let frame = frame_ports();
     InputPorts {
         reset: signal(1),
-        joins: signal(2),
+        integrating: signal(2),
         enable: signal(3),
         bus: signal(4),
-        hold: signal(5),
-        wish_ones: signal(6),
-        wish_twos: signal(7),
+        overload_request: signal(5),
+        overload_count_ones: signal(6),
+        overload_count_twos: signal(7),
         waits: signal(8),
         frame,
     }

@@ -50,13 +50,13 @@ fn with_wish(circuit: &mut Circuit, held: &Registers, inputs: &InputPorts) -> Re
     ensures { Makes circuit.old circuit.new (λ v. (m : MacState) → HoldsAll v held.now m → HoldsAll v result (asked (step_in v inputs.now).wish m)) }
 {
     let wish = Nibble {
-        ones: inputs.wish_ones,
-        twos: inputs.wish_twos,
+        ones: inputs.overload_count_ones,
+        twos: inputs.overload_count_twos,
         fours: FALSE,
         eights: FALSE,
     };
     let few = wish.less(circuit, ABOVE_WISHES);
-    let asks = circuit.and(inputs.hold, few);
+    let asks = circuit.and(inputs.overload_request, few);
     let pending = Nibble::choose(circuit, asks, wish, held.controller.wires.pending);
     Registers {
         controller: asking(held.controller, pending),
@@ -78,13 +78,13 @@ fn show(
     let counters = &held.controller.counters;
     let passes = circuit.and(inputs.enable, inputs.reset.opposite());
     let event = made.next.controller.wires.event;
-    let told = Nibble::choose(circuit, passes, event, Nibble::of(0));
+    let event_code = Nibble::choose(circuit, passes, event, Nibble::of(0));
     let frame = told_frame(circuit, wished);
     let passive = is_passive(circuit, &counters.tec, &counters.rec);
     let legal = is_legal(circuit, held);
     OutputPorts {
         drive: made.recessive,
-        told,
+        event_code,
         frame,
         tec: counters.tec,
         rec: counters.rec,
@@ -103,32 +103,32 @@ fn take(
     next: &Registers,
 ) -> [Literal; 277]
     ensures places { length result ≡ 277 }
-    ensures taken { Makes circuit.old circuit.new (λ v. (p : ℕ) → p < 277 → value v (slice_index_or result p FALSE) ≡ taken_at (value v inputs.now.reset) (value v inputs.now.joins) (value v inputs.now.enable) p (value v (slice_index_or (register_list next.now) p FALSE)) (value v (slice_index_or (register_list held.now) p FALSE))) }
+    ensures taken { Makes circuit.old circuit.new (λ v. (p : ℕ) → p < 277 → value v (slice_index_or result p FALSE) ≡ taken_at (value v inputs.now.reset) (value v inputs.now.integrating) (value v inputs.now.enable) p (value v (slice_index_or (register_list next.now) p FALSE)) (value v (slice_index_or (register_list held.now) p FALSE))) }
 {
     let passes = circuit.and(inputs.enable, inputs.reset.opposite());
     let rests = circuit.and(inputs.enable.opposite(), inputs.reset.opposite());
-    let joins = circuit.and(inputs.reset, inputs.joins);
-    merge(circuit, passes, next, rests, held, joins)
+    let integrating = circuit.and(inputs.reset, inputs.integrating);
+    merge(circuit, passes, next, rests, held, integrating)
 }
 
-/// The levels of `next` if `passes` is true, those of `held` if `rests` is, and the first one also if `joins` is.
+/// The levels of `next` if `passes` is true, those of `held` if `rests` is, and the first one also if `integrating` is.
 fn merge(
     circuit: &mut Circuit,
     passes: Literal,
     next: &Registers,
     rests: Literal,
     held: &Registers,
-    joins: Literal,
+    integrating: Literal,
 ) -> [Literal; 277]
     ensures places { length result ≡ 277 }
-    ensures merged { Makes circuit.old circuit.new (λ v. (p : ℕ) → p < 277 → value v (slice_index_or result p FALSE) ≡ (((value v passes && value v (slice_index_or (register_list next.now) p FALSE)) || (value v rests && value v (slice_index_or (register_list held.now) p FALSE))) || (p == 0 && value v joins))) }
+    ensures merged { Makes circuit.old circuit.new (λ v. (p : ℕ) → p < 277 → value v (slice_index_or result p FALSE) ≡ (((value v passes && value v (slice_index_or (register_list next.now) p FALSE)) || (value v rests && value v (slice_index_or (register_list held.now) p FALSE))) || (p == 0 && value v integrating))) }
 {
     let mut all = [FALSE; REGISTERS];
     for place in 0..REGISTERS {
         let new = circuit.and(passes, register_at(next, place));
         let old = circuit.and(rests, register_at(held, place));
         let either = circuit.or(new, old);
-        all[place] = circuit.or(either, at_first(place, joins));
+        all[place] = circuit.or(either, at_first(place, integrating));
     }
     all
 }

@@ -96,7 +96,7 @@ overload_flag_driven_passive : mac_drives (with_rec 128 (receiver (OverloadFlag 
 unfolding mac_drives
 overload_flag_driven_passive = refl
 
--- [Behind a flag] At a receiver the first level after an error flag, active or passive, counts 8 if it is dominant. After an overload
+-- [After a flag] At a receiver the first level after an error flag, active or passive, counts 8 if it is dominant. After an overload
 -- flag it counts nothing, and at a transmitter it never does.
 
 first_dominant_behind_an_active_flag : Leads None (receiver (ErrorFlag 0)) (codes "0000000") [] (with_rec 8 (receiver (AfterFlag false 1)))
@@ -127,7 +127,7 @@ first_dominant_at_a_sender_behind_an_overload_flag : Leads None (sender (Overloa
 unfolding mac_step
 first_dominant_at_a_sender_behind_an_overload_flag = (refl, refl)
 
--- [Behind a flag] Every eighth dominant level in a row counts 8 more, after each kind of flag, at receiver and transmitter. The six of
+-- [After a flag] Every eighth dominant level in a row counts 8 more, after each kind of flag, at receiver and transmitter. The six of
 -- the flag are not among them; the first one after it is.
 
 seventh_dominant_behind_an_error_flag : Leads None (receiver (ErrorFlag 0)) (codes "0000000000000") [] (with_rec 8 (receiver (AfterFlag false 7)))

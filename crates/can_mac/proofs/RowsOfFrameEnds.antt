@@ -168,7 +168,7 @@ other_passive_flag_dominant : Leads None (with_tec 136 (sender (PassiveFlag Rece
 unfolding mac_step
 other_passive_flag_dominant = (refl, refl)
 
--- [Refused check sequence] The ACK slot has no influence, and no reception is counted with it. The CRC error is reported with the ACK
+-- [Refused CRC sequence] The ACK slot has no influence, and no reception is counted with it. The CRC error is reported with the ACK
 -- delimiter; if that is dominant, only the form error is.
 
 refused_slot_dominant : Leads None (with_rec 5 (receiver (AckSlot refused_001))) (codes "0") [] (with_rec 5 (receiver (AckDelimiter refused_001)))

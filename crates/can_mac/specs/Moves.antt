@@ -184,7 +184,7 @@ ack_slot_move s Receiver r Dominant =
     if r.agrees then record (goes s (AckDelimiter r)) { cause = Some FrameReceived } else goes s (AckDelimiter r)
 ack_slot_move s Receiver r Recessive = if r.agrees then errs s Bit else goes s (AckDelimiter r)
 
--- [Refused check sequence] a receiver that found the CRC sequence wrong
+-- [Refused CRC sequence] a receiver that found the CRC sequence wrong
 abbrev pub refuses : Role → Reading → Bool
 refuses Receiver r = not r.agrees
 refuses (Sender f) r = false
@@ -245,7 +245,7 @@ passive_flag_move s last run unacknowledged x =
     record (goes s (passive_phase x (run_after last run x) (unacknowledged && is_recessive x)))
     { cause = if unacknowledged && not (is_recessive x) then Some PassiveUnacknowledged else None }
 
--- [Behind a flag] the cause of a dominant level after a flag: for a receiver the first one after an error flag, for any controller every
+-- [After a flag] the cause of a dominant level after a flag: for a receiver the first one after an error flag, for any controller every
 -- eighth in a row
 abbrev pub dominant_cause : Role → Bool → ℕ → Option Cause
 dominant_cause Receiver first dominant =

@@ -25,8 +25,8 @@ use Rattle.can_page.specs.declared.plain.WrongField.{WrongField}
 
 -- the number of a phase
 abbrev pub stage_code : Stage → ℕ
-stage_code stage.Joining = 0
-stage_code stage.Idle = 1
+stage_code stage.Idle = 0
+stage_code stage.Joining = 1
 stage_code stage.StuffedPart = 2
 stage_code stage.CrcDelimiter = 3
 stage_code stage.AckSlot = 4

@@ -167,8 +167,8 @@ fn stage_code(stage: Stage) -> u8
     ensures { result ≡ stage_code_of stage }
 {
     match stage {
-        Stage::Joining => 0,
-        Stage::Idle => 1,
+        Stage::Idle => 0,
+        Stage::Joining => 1,
         Stage::StuffedPart => 2,
         Stage::CrcDelimiter => 3,
         Stage::AckSlot => 4,

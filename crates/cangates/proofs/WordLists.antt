@@ -19,7 +19,7 @@ outputs_nested drives extended identifier dlc bytes tec rec ends = simp (append_
 
 pub outputs_joined : (k : OutputPorts) → literals_of (output_words k) ≡ output_list k
 outputs_joined k =
-    outputs_nested (k.drive ∷ nibble_before k.told []) (k.frame.extended ∷ k.frame.remote ∷ []) (placed 29 k.frame.identifier) (nibble_before k.frame.dlc []) (placed 64 k.frame.bytes) (placed 9 k.tec) (placed 8 k.rec)
+    outputs_nested (k.drive ∷ nibble_before k.event_code []) (k.frame.extended ∷ k.frame.remote ∷ []) (placed 29 k.frame.identifier) (nibble_before k.frame.dlc []) (placed 64 k.frame.bytes) (placed 9 k.tec) (placed 8 k.rec)
     (k.passive ∷ k.off ∷ k.legal ∷ [])
 
 registers_nested : (wires tec rec occurrences levels count run check own : List Literal)
@@ -45,13 +45,13 @@ fields_fit extended remote identifier dlc bytes four =
 
 pub inputs_fit : (k : InputPorts) → length (input_list k) ≡ 107
 inputs_fit k =
-    longer (k.reset ∷ k.joins ∷ k.enable ∷ k.bus ∷ k.hold ∷ k.wish_ones ∷ k.wish_twos ∷ k.waits ∷ []) (field_list k.frame) 8 99 refl
+    longer (k.reset ∷ k.integrating ∷ k.enable ∷ k.bus ∷ k.overload_request ∷ k.overload_count_ones ∷ k.overload_count_twos ∷ k.waits ∷ []) (field_list k.frame) 8 99 refl
     (fields_fit k.frame.extended k.frame.remote k.frame.identifier (nibble_before k.frame.dlc []) k.frame.bytes refl)
 
 pub outputs_fit : (k : OutputPorts) → length (output_list k) ≡ 124
 outputs_fit k =
     let frame = fields_fit k.frame.extended k.frame.remote k.frame.identifier (nibble_before k.frame.dlc []) k.frame.bytes refl in
-    let drives : List Literal = k.drive ∷ nibble_before k.told [] in
+    let drives : List Literal = k.drive ∷ nibble_before k.event_code [] in
     let tec = placed 9 k.tec in
     let rec = placed 8 k.rec in
     longer (((drives ++ field_list k.frame) ++ tec) ++ rec) (k.passive ∷ k.off ∷ k.legal ∷ []) 121 3
@@ -73,11 +73,11 @@ registers_fit k =
 
 -- ---- the places of each word
 
-pub inputs_sized : (k : InputPorts) → map sized (input_words k) ≡ (codes "reset", 1) ∷ (codes "joins", 1) ∷ (codes "enable", 1) ∷ (codes "bus", 1) ∷ (codes "hold", 1) ∷ (codes "hold_wish", 2) ∷ (codes "waits", 1)
+pub inputs_sized : (k : InputPorts) → map sized (input_words k) ≡ (codes "reset", 1) ∷ (codes "integrating", 1) ∷ (codes "enable", 1) ∷ (codes "bus", 1) ∷ (codes "overload_request", 1) ∷ (codes "overload_count", 2) ∷ (codes "waits", 1)
     ∷ (codes "wait_extended", 1) ∷ (codes "wait_remote", 1) ∷ (codes "wait_identifier", 29) ∷ (codes "wait_dlc", 4) ∷ (codes "wait_data", 64) ∷ []
 inputs_sized k = rw (length-placed 29 k.frame.identifier, length-placed 64 k.frame.bytes) refl
 
-pub outputs_sized : (k : OutputPorts) → map sized (output_words k) ≡ (codes "drive", 1) ∷ (codes "told", 4) ∷ (codes "frame_extended", 1) ∷ (codes "frame_remote", 1) ∷ (codes "frame_identifier", 29) ∷ (codes "frame_dlc", 4)
+pub outputs_sized : (k : OutputPorts) → map sized (output_words k) ≡ (codes "drive", 1) ∷ (codes "event_code", 4) ∷ (codes "frame_extended", 1) ∷ (codes "frame_remote", 1) ∷ (codes "frame_identifier", 29) ∷ (codes "frame_dlc", 4)
     ∷ (codes "frame_data", 64) ∷ (codes "tec", 9) ∷ (codes "rec", 8) ∷ (codes "passive", 1) ∷ (codes "off", 1) ∷ (codes "legal", 1) ∷ []
 outputs_sized k = rw (length-placed 29 k.frame.identifier, length-placed 64 k.frame.bytes, length-placed 9 k.tec, length-placed 8 k.rec) refl
 

@@ -14,11 +14,11 @@ use Rattle.can_gates_controller.specs.Listed.{nibble_before, placed}
 abbrev pub input_words : InputPorts → List (List ℕ × List Literal)
 input_words k =
     (codes "reset", k.reset ∷ [])
-    ∷ (codes "joins", k.joins ∷ [])
+    ∷ (codes "integrating", k.integrating ∷ [])
     ∷ (codes "enable", k.enable ∷ [])
     ∷ (codes "bus", k.bus ∷ [])
-    ∷ (codes "hold", k.hold ∷ [])
-    ∷ (codes "hold_wish", k.wish_ones ∷ k.wish_twos ∷ [])
+    ∷ (codes "overload_request", k.overload_request ∷ [])
+    ∷ (codes "overload_count", k.overload_count_ones ∷ k.overload_count_twos ∷ [])
     ∷ (codes "waits", k.waits ∷ [])
     ∷ (codes "wait_extended", k.frame.extended ∷ [])
     ∷ (codes "wait_remote", k.frame.remote ∷ [])
@@ -30,7 +30,7 @@ input_words k =
 abbrev pub output_words : OutputPorts → List (List ℕ × List Literal)
 output_words k =
     (codes "drive", k.drive ∷ [])
-    ∷ (codes "told", nibble_before k.told [])
+    ∷ (codes "event_code", nibble_before k.event_code [])
     ∷ (codes "frame_extended", k.frame.extended ∷ [])
     ∷ (codes "frame_remote", k.frame.remote ∷ [])
     ∷ (codes "frame_identifier", placed 29 k.frame.identifier)

@@ -18,13 +18,13 @@ the AIGER file is in the binary format, which berkeley-abc reads.
 A step of the circuit with enable 1 is a bit time of classical CAN: bus is the
 sampled level, and drive the level that the controller drives in the same bit time;
 1 is recessive. Comments of the module describe its ports and registers; symbols do
-in AIGER. told is the number of the event in the bit time, 0 for none:
+in AIGER. event_code is the number of the event in the bit time, 0 for none:
   1 sent  2 received  3 arbitration lost  9 overload frame  10 bus off  11 recovered;
   errors: 4 bit  5 stuff  6 CRC  7 form  8 acknowledgement
 
 Verilog has three forms of statement, a line each:
   wire n385 = n5 & ~n7;    a gate; also wire n12 = wait_identifier[4];
-  assign told[0] = ~n4001; an output
+  assign event_code[0] = ~n4001; an output
   phase[0] <= n4711;       the next value of a register
 
 Faults, as lines on standard error, such as cangates: P5 memory: not enough memory

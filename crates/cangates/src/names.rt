@@ -42,7 +42,7 @@ const INPUTS: &[Word<'static>] = &[
         meaning: "the registers become those of an idle controller, or of one that integrates, whatever enable is",
     },
     Word {
-        name: "joins",
+        name: "integrating",
         places: 1,
         meaning: "with reset: it waits for eleven recessive levels first",
     },
@@ -57,12 +57,12 @@ const INPUTS: &[Word<'static>] = &[
         meaning: "the sampled level, 1 is recessive",
     },
     Word {
-        name: "hold",
+        name: "overload_request",
         places: 1,
         meaning: "with enable: requests own overload frames, before the bit time",
     },
     Word {
-        name: "hold_wish",
+        name: "overload_count",
         places: 2,
         meaning: "the number of them, 0 to 2; 3 changes nothing",
     },
@@ -105,9 +105,9 @@ const OUTPUTS: &[Word<'static>] = &[
         meaning: "the level driven in this bit time, 1 is recessive",
     },
     Word {
-        name: "told",
+        name: "event_code",
         places: 4,
-        meaning: "the event of the bit time: 0 none, 1 sent, 2 received, 3 lost, errors 4 bit 5 stuff 6 CRC 7 form 8 ACK, 9 overload, 10 off, 11 recovered",
+        meaning: "the event of the bit time: 0 none, 1 sent, 2 received, 3 lost, errors 4 bit 5 stuff 6 CRC 7 form 8 ACK, 9 overload, 10 went off, 11 recovered",
     },
     Word {
         name: "frame_extended",

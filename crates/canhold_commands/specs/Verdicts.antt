@@ -48,7 +48,7 @@ ending_text end = state_word end.state ++ (codes " " ++ counters_text end.counte
 -- the kind of a difference, with its actual and expected value
 abbrev pub difference_text : Difference → List ℕ
 difference_text (difference.Level told ought) = level_difference told ought
-difference_text (difference.Event told ought) = codes "told " ++ not_text event_or_nothing told ought
+difference_text (difference.Event told ought) = codes "reported " ++ not_text event_or_nothing told ought
 difference_text (difference.Counters told ought) = codes "counted " ++ not_text counters_text told ought
 difference_text (difference.End told ought) = codes "end " ++ not_text ending_text told ought
 

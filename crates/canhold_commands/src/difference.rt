@@ -19,7 +19,7 @@ pub(crate) fn push_difference(out: &mut Vec<u8>, difference: &Difference) -> Res
     match difference {
         Difference::Level { told, ought } => push_level_difference(out, *told, *ought),
         Difference::Event { told, ought } => {
-            push_text(out, b"told ")?;
+            push_text(out, b"reported ")?;
             push_event_or_nothing(out, told)?;
             push_text(out, NOT)?;
             push_event_or_nothing(out, ought)

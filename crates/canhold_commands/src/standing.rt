@@ -1,20 +1,20 @@
-//! The state of the reference: words for phases, parts and rules.
+//! The state of the reference: words for phases, roles and rules.
 ghost use Rattle.std.specs.Prelude.{◌≡◌, ◌++◌, decimal, OnOk};
-ghost use Rattle.canhold_commands.specs.Standings.{part_word as word_of_part, phase_text, rule_name as name_of_rule, since_text, standing_text};
+ghost use Rattle.canhold_commands.specs.Standings.{phase_text, role_word as word_of_role, rule_name as name_of_rule, since_text, standing_text};
 
-use can_conform::{Part, PhaseName, Rule, Standing, Timed};
+use can_conform::{PhaseName, RoleName, Rule, Standing, Timed};
 use can_mac::Event;
 use document_values::{push_number, push_text};
 use kit_documents::push_event;
 use std::alloc::AllocError;
 
-/// Appends phase, part, rule and last event.
+/// Appends phase, role, rule and last event.
 pub(crate) fn push_standing(out: &mut Vec<u8>, standing: &Standing) -> Result<(), AllocError>
     ensures { OnOk result (out.new.items ≡ out.old.items ++ standing_text standing.now) }
 {
     push_phase(out, standing.phase)?;
     push_text(out, b", ")?;
-    push_text(out, part_word(standing.part))?;
+    push_text(out, role_word(standing.role))?;
     push_text(out, b"; ")?;
     push_text(out, rule_name(standing.rule))?;
     push_since(out, &standing.since)
@@ -38,42 +38,39 @@ fn push_phase(out: &mut Vec<u8>, phase: PhaseName) -> Result<(), AllocError>
     ensures { OnOk result (out.new.items ≡ out.old.items ++ phase_text phase) }
 {
     match phase {
-        PhaseName::Joining(n) => push_so_far(out, b"joining ", n),
+        PhaseName::Joining(n) => push_so_far(out, b"joining ", u64::from(n)),
         PhaseName::Idle => push_text(out, b"idle"),
-        PhaseName::Stuffed(n) => {
-            push_text(out, b"stuffed ")?;
-            push_number(out, n as u64)
-        }
+        PhaseName::StuffedPart(n) => push_so_far(out, b"stuffed-part ", n as u64),
         PhaseName::CrcDelimiter => push_text(out, b"crc-delimiter"),
         PhaseName::AckSlot => push_text(out, b"ack-slot"),
         PhaseName::AckDelimiter => push_text(out, b"ack-delimiter"),
-        PhaseName::EndOfFrame(n) => push_so_far(out, b"end-of-frame ", n),
-        PhaseName::ActiveFlag(n) => push_so_far(out, b"active-flag ", n),
-        PhaseName::PassiveFlag(n) => push_so_far(out, b"passive-flag ", n),
-        PhaseName::OverloadFlag(n) => push_so_far(out, b"overload-flag ", n),
-        PhaseName::BehindFlag(n) => push_so_far(out, b"behind-flag ", n),
-        PhaseName::Delimiter(n) => push_so_far(out, b"delimiter ", n),
-        PhaseName::Intermission(n) => push_so_far(out, b"intermission ", n),
-        PhaseName::Suspend(n) => push_so_far(out, b"suspend ", n),
-        PhaseName::BusOff(n) => push_so_far(out, b"bus-off ", n),
+        PhaseName::EndOfFrame(n) => push_so_far(out, b"end-of-frame ", u64::from(n)),
+        PhaseName::ErrorFlag(n) => push_so_far(out, b"error-flag ", u64::from(n)),
+        PhaseName::PassiveFlag(n) => push_so_far(out, b"passive-flag ", u64::from(n)),
+        PhaseName::OverloadFlag(n) => push_so_far(out, b"overload-flag ", u64::from(n)),
+        PhaseName::AfterFlag(n) => push_so_far(out, b"after-flag ", u64::from(n)),
+        PhaseName::Delimiter(n) => push_so_far(out, b"delimiter ", u64::from(n)),
+        PhaseName::Intermission(n) => push_so_far(out, b"intermission ", u64::from(n)),
+        PhaseName::Suspend(n) => push_so_far(out, b"suspend ", u64::from(n)),
+        PhaseName::BusOff(n) => push_so_far(out, b"bus-off ", u64::from(n)),
     }
 }
 
 /// Appends a word and a number.
-fn push_so_far(out: &mut Vec<u8>, word: &[u8], count: u8) -> Result<(), AllocError>
+fn push_so_far(out: &mut Vec<u8>, word: &[u8], count: u64) -> Result<(), AllocError>
     ensures { OnOk result (out.new.items ≡ out.old.items ++ (word.now ++ decimal count)) }
 {
     push_text(out, word)?;
-    push_number(out, u64::from(count))
+    push_number(out, count)
 }
 
-/// The word for a part.
-fn part_word(part: Part) -> &'static [u8]
-    ensures { result.now ≡ word_of_part part }
+/// The word for a role.
+fn role_word(role: RoleName) -> &'static [u8]
+    ensures { result.now ≡ word_of_role role }
 {
-    match part {
-        Part::Receiver => b"receiver",
-        Part::Sender => b"sender",
+    match role {
+        RoleName::Receiver => b"receiver",
+        RoleName::Sender => b"sender",
     }
 }
 
@@ -92,11 +89,11 @@ fn rule_name(rule: Rule) -> &'static [u8]
         Rule::StuffPlaces => b"Stuff places",
         Rule::FixedForm => b"Fixed form",
         Rule::Acknowledgement => b"Acknowledgement",
-        Rule::RefusedCheckSequence => b"Refused check sequence",
+        Rule::RefusedCrcSequence => b"Refused CRC sequence",
         Rule::DominantLastLevel => b"Dominant last level",
         Rule::ErrorFlags => b"Error flags",
         Rule::ErrorInAnOwnFlag => b"Error in an own flag",
-        Rule::BehindAFlag => b"Behind a flag",
+        Rule::AfterAFlag => b"After a flag",
         Rule::Delimiter => b"Delimiter",
         Rule::OverloadFlags => b"Overload flags",
         Rule::OwnOverloadFrames => b"Own overload frames",

@@ -20,9 +20,9 @@ abbrev pub event_text : Event → List ℕ
 event_text (Sent f) = codes "sent " ++ frame_text f
 event_text (Received f) = codes "received " ++ frame_text f
 event_text Lost = codes "lost"
-event_text (Error kind) = codes "error " ++ kind_word kind
+event_text (Error kind) = kind_word kind ++ codes " error"
 event_text Overload = codes "overload"
-event_text WentOff = codes "off"
+event_text WentOff = codes "went off"
 event_text Recovered = codes "recovered"
 
 -- The frame of an event, if it has one.

@@ -132,11 +132,11 @@ fn push_frame_levels(
 fn mistake_some(random: &mut Random, told: &mut [u8]) {
     for place in 0..told.len() {
         let is_mistaken = told.len() - place >= 9
-            && told[place] == b'e'
-            && told[place..].starts_with(b"error bit")
+            && told[place] == b'b'
+            && told[place..].starts_with(b"bit error")
             && random.is_one_in(12);
         if is_mistaken {
-            told[place + 6..place + 9].copy_from_slice(b"ack");
+            told[place..place + 3].copy_from_slice(b"ack");
         }
     }
 }

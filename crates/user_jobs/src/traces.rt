@@ -21,11 +21,11 @@ type Pool = Vec<Vec<u8>>;
 enum Form {
     /// Frames, one after another.
     Busy,
-    /// The same, with line ends.
+    /// Frames, one after another, with line ends.
     Lines,
-    /// The same, with some inverted levels.
+    /// Frames, one after another, with some inverted levels.
     Wrong,
-    /// The same, with a space after each level.
+    /// Frames, one after another, with a space after each level.
     Apart,
     /// Frames with long idle times between them.
     Idle,

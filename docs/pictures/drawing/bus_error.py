@@ -38,7 +38,7 @@ def data() -> tuple[str, list[Transcript], Times]:
     bus, nodes = text_of(REPORT).splitlines()[1], transcripts(text_of(EXPECTED))
     wired = "".join(min(levels) for levels in zip(*(node.drove for node in nodes)))
     hits = [time for time, levels in enumerate(zip(wired, bus)) if levels[0] != levels[1]]
-    errors = [min(time for time, event in node.events.items() if event.startswith("error")) for node in nodes]
+    errors = [min(time for time, event in node.events.items() if event.endswith(" error")) for node in nodes]
     asked(len(hits) == 1 and hits[0] == errors[0], f"{EXPECTED} and {REPORT} differ")
     flags_end = bus.index("1", errors[1])
     again = bus.index("0", flags_end)
@@ -73,10 +73,10 @@ def draw_bands(picture: Picture, fields: list[Band]) -> None:
             picture.text(middle, 46, band.name, 11, "middle")
 
 
-def draw_node(picture: Picture, top: int, name: str, part: str, levels: str, flag: int) -> None:
+def draw_node(picture: Picture, top: int, name: str, role: str, levels: str, flag: int) -> None:
     """What a node drives: its flag begins in a bit time, and has six levels."""
     picture.text(12, top + 10, name, 13, kind="b")
-    picture.note(12, top + 26, part)
+    picture.note(12, top + 26, role)
     picture.box(at(flag), top - 6, 6 * CELL, HIGH + 12, RED)
     picture.text(at(flag + 3), top + 12, "error flag", 11, "middle")
     draw_wave(picture, levels[:SHOWN], LEFT, top, CELL, HIGH)
@@ -129,11 +129,10 @@ def picture() -> Picture:
     ]
     again = [it for it in bands(bus[times.again :], times.again) if it.first < SHOWN]
     draw_bands(drawn, [*kept, *between, *again])
-    for top, node, part, flag in zip(NODES, nodes, ("transmitter", "receiver"), (times.hit, times.late)):
-        draw_node(drawn, top, f"Node {NODES.index(top)}", part, node.drove, flag + 1)
-        words = node.events[flag].removeprefix("error ")
+    for top, node, role, flag in zip(NODES, nodes, ("transmitter", "receiver"), (times.hit, times.late)):
+        draw_node(drawn, top, f"Node {NODES.index(top)}", role, node.drove, flag + 1)
         tec, rec = node.counters[flag]
-        draw_event(drawn, flag, top + HIGH + 8, f"{words} error: " + (f"TEC {tec}" if tec else f"REC {rec}"))
+        draw_event(drawn, flag, top + HIGH + 8, f"{node.events[flag]}: " + (f"TEC {tec}" if tec else f"REC {rec}"))
     draw_bus(drawn, bus, times)
     draw_axis(drawn, [times.hit, times.late + 1, times.flags_end, times.again])
     draw_spans(drawn, times)

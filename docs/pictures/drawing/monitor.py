@@ -13,15 +13,15 @@ from drawing.svg import ACCENT, BAD, INK, PANEL, SOFT, Picture
 SOURCE = "bindings/verilog/riddlesage_monitor.v"
 WIDTH, HEIGHT = 1000, 430
 # the ports of the monitor in Verilog, as the picture names them
-PORTS = ("clk", "reset", "joins", "sample", "drive", "bus", "own_tec", "own_rec", "own_told", "own_frame")
-OUTPUTS = ("due", "told", "frame", "differs")
+PORTS = ("clk", "reset", "integrating", "sample", "drive", "bus", "own_tec", "own_rec", "own_event_code", "own_frame")
+OUTPUTS = ("due", "event_code", "frame", "differs")
 ABOUT = """\
 A test bench with two blocks side by side. On the left is your controller, the design under test. On the \
 right is riddlesage_monitor, with a golden node and a comparison. The bus leads to both. The level that \
 the controller drives leads to the monitor's port drive. The controller's error counters, event and \
-frame lead to own_tec, own_rec, own_told and own_frame, which are optional. The test bench gives clk, \
-reset, joins and sample, and offers each frame to both. The monitor's outputs are due, told, frame and \
-differs."""
+frame lead to own_tec, own_rec, own_event_code and own_frame, which are optional. The test bench gives \
+clk, reset, integrating and sample, and offers each frame to both. The monitor's outputs are due, \
+event_code, frame and differs."""
 
 
 def declared() -> None:
@@ -56,7 +56,7 @@ def draw_inputs(picture: Picture) -> None:
     picture.note(340, 50, "clock, reset, strobe", "at the sample point", at="middle")
     picture.arrow([(252, 54), (140, 54), (140, 116)])
     picture.arrow([(428, 54), (505, 54), (505, 116)])
-    picture.text(513, 84, "clk reset joins sample", 12, kind="m")
+    picture.text(513, 84, "clk reset integrating sample", 12, kind="m")
     picture.box(285, 128, 110, 28, "#fff", SOFT, 4)
     picture.note(340, 146, "frames to send", at="middle")
     picture.arrow([(285, 142), (240, 142)])
@@ -68,7 +68,7 @@ def draw_compared(picture: Picture) -> None:
     """What the controller drives and reports, and the bus."""
     for y, own, ports, about in (
         (186, "TEC, REC", "own_tec own_rec", "with COUNTERS"),
-        (236, "event, frame", "own_told own_frame", "with EVENTS"),
+        (236, "event, frame", "own_event_code own_frame", "with EVENTS"),
     ):
         picture.text(230, y + 4, own, 11, "end")
         picture.arrow([(240, y), (440, y)], INK, 1.5, "6 4")
@@ -90,7 +90,7 @@ def draw_outputs(picture: Picture) -> None:
     """What the monitor gives."""
     for y, name, about, colour in (
         (150, "due", "the level to be driven", INK),
-        (192, "told", "the event of the bit time", INK),
+        (192, "event_code", "the event of the bit time", INK),
         (234, "frame", "the last frame received or sent", INK),
         (291, "differs", "with ENDS off; otherwise the", BAD),
     ):

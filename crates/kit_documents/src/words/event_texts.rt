@@ -10,7 +10,7 @@ use can_mac::{ErrorKind, Event};
 use document_values::push_text;
 use std::alloc::AllocError;
 
-/// Appends an event, such as `received S 123 D 1 c3` or `error stuff`.
+/// Appends an event, such as `received S 123 D 1 c3` or `stuff error`.
 pub fn push_event(out: &mut Vec<u8>, event: &Event) -> Result<(), AllocError>
     ensures { OnOk result (out.new.items ≡ out.old.items ++ event_text event.now) }
 {
@@ -20,7 +20,7 @@ pub fn push_event(out: &mut Vec<u8>, event: &Event) -> Result<(), AllocError>
         Event::Lost => push_text(out, b"lost"),
         Event::Error(kind) => push_error(out, *kind),
         Event::Overload => push_text(out, b"overload"),
-        Event::WentOff => push_text(out, b"off"),
+        Event::WentOff => push_text(out, b"went off"),
         Event::Recovered => push_text(out, b"recovered"),
     }
 }
@@ -35,10 +35,10 @@ fn push_frame(out: &mut Vec<u8>, word: &[u8], frame: &Frame) -> Result<(), Alloc
 
 /// Appends the kind of a detected error.
 fn push_error(out: &mut Vec<u8>, kind: ErrorKind) -> Result<(), AllocError>
-    ensures { OnOk result (out.new.items ≡ out.old.items ++ (codes "error " ++ word_of_kind kind)) }
+    ensures { OnOk result (out.new.items ≡ out.old.items ++ (word_of_kind kind ++ codes " error")) }
 {
-    push_text(out, b"error ")?;
-    push_text(out, kind_word(kind))
+    push_text(out, kind_word(kind))?;
+    push_text(out, b" error")
 }
 
 /// The word for a kind of error.

@@ -46,13 +46,13 @@ fn event_in_words(text: &str) -> Option<Event>
 {
     match text {
         "lost" => Some(Event::Lost),
-        "error bit" => Some(Event::Error(ErrorKind::Bit)),
-        "error stuff" => Some(Event::Error(ErrorKind::Stuff)),
-        "error crc" => Some(Event::Error(ErrorKind::Crc)),
-        "error form" => Some(Event::Error(ErrorKind::Form)),
-        "error ack" => Some(Event::Error(ErrorKind::Ack)),
+        "bit error" => Some(Event::Error(ErrorKind::Bit)),
+        "stuff error" => Some(Event::Error(ErrorKind::Stuff)),
+        "crc error" => Some(Event::Error(ErrorKind::Crc)),
+        "form error" => Some(Event::Error(ErrorKind::Form)),
+        "ack error" => Some(Event::Error(ErrorKind::Ack)),
         "overload" => Some(Event::Overload),
-        "off" => Some(Event::WentOff),
+        "went off" => Some(Event::WentOff),
         "recovered" => Some(Event::Recovered),
         _ => None,
     }

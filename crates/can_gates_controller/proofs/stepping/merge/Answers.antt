@@ -24,7 +24,7 @@ loop-place-preserved c =
             let before = l.invariant.1.1 v new.0 in
             let zero_is = zero-kept v c.args.circuit.now before.0 in
             let is = taken.1 ∙ rw (either.1, old.1, new.1, c.register_at.ensures, c.register_at-in-loop-place.ensures, c.at_first.ensures v zero_is) refl in
-            (before.0, λ p h. written_place v (λ q. ((value v c.args.passes && value v (get_or next q never)) || (value v c.args.rests && value v (get_or held q never))) || ((q == 0) && value v c.args.joins)) l.all c.or.result l.place p within is before.1 h),
+            (before.0, λ p h. written_place v (λ q. ((value v c.args.passes && value v (get_or next q never)) || (value v c.args.rests && value v (get_or held q never))) || ((q == 0) && value v c.args.integrating)) l.all c.or.result l.place p within is before.1 h),
       ),
     )
 

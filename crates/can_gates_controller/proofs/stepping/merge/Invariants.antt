@@ -7,4 +7,4 @@ use Rattle.can_gates_controller.proofs.stepping.merge.Given as goal
 abbrev pub invariant-loop-place : goal.invariant-loop-place
 invariant-loop-place l =
     (length l.all ≡ 277)
-    × Makes l.fn.circuit l.circuit (λ v. (p : ℕ) → p < l.place → value v (get_or l.all p never) ≡ (((value v l.fn.passes && value v (get_or (register_list l.next) p never)) || (value v l.fn.rests && value v (get_or (register_list l.held) p never))) || (p == 0 && value v l.fn.joins)))
+    × Makes l.fn.circuit l.circuit (λ v. (p : ℕ) → p < l.place → value v (get_or l.all p never) ≡ (((value v l.fn.passes && value v (get_or (register_list l.next) p never)) || (value v l.fn.rests && value v (get_or (register_list l.held) p never))) || (p == 0 && value v l.fn.integrating)))

@@ -25,14 +25,14 @@ returns-clause-taken c =
           let now_taken = c.take-taken.result in (
             levels.0,
             (
-              λ now resets takes. taken_reset v now held next now_taken (value v inputs.reset) (value v inputs.joins) (value v inputs.enable) taken.1 takes resets,
+              λ now resets takes. taken_reset v now held next now_taken (value v inputs.reset) (value v inputs.integrating) (value v inputs.enable) taken.1 takes resets,
               λ m holds.
                   let s = step_in v inputs in
                   let w = wished.1 m holds in
                   let offers = offers_is v (record { waits = inputs.waits; levels = c.levels_of-levels.result }) (value v inputs.waits) (frame_in v inputs.frame) refl (frame_in-is v inputs.frame) levels.1 in
                   let time = made.1 (asked s.wish m) s.waiting s.level w offers (recessive_from (value v inputs.bus)) in (
                     outputs.1 m s refl holds w time,
-                    λ now takes. taken_behind v now held next now_taken s.reset s.joins s.enable taken.1 takes m (step_time m s).0 holds time.next,
+                    λ now takes. taken_behind v now held next now_taken s.reset s.integrating s.enable taken.1 takes m (step_time m s).0 holds time.next,
                   ),
             ),
           ),

@@ -16,8 +16,8 @@ returns c = (
       let no = value-never v (zero-kept v c.args.circuit.now few.0) in
       let held = c.args.held.now in
       let k = c.args.inputs.now in
-      let wish = two_places v (record { ones = k.wish_ones; twos = k.wish_twos; fours = never; eights = never }) no no in (
+      let wish = two_places v (record { ones = k.overload_count_ones; twos = k.overload_count_twos; fours = never; eights = never }) no no in (
         few.0,
-        λ m holds. wish_holds v c.asking.result held m (nibble v c.choose-pending.result) holds (λ n e. c.asking.ensures v m n holds.controller e) (value v k.hold) _ (number v (k.wish_ones ∷ k.wish_twos ∷ [])) (asks.1 ∙ rw (few.1, wish) refl) (pending.1 ∙ rw (wish, holds.controller.pending) refl),
+        λ m holds. wish_holds v c.asking.result held m (nibble v c.choose-pending.result) holds (λ n e. c.asking.ensures v m n holds.controller e) (value v k.overload_request) _ (number v (k.overload_count_ones ∷ k.overload_count_twos ∷ [])) (asks.1 ∙ rw (few.1, wish) refl) (pending.1 ∙ rw (wish, holds.controller.pending) refl),
       ),
 )

@@ -6,7 +6,7 @@ use Rattle.can_frame.specs.declared.level.Level.TheVariants.{Recessive}
 use Rattle.can_mac.specs.State.{MacState}
 use Rattle.can_conform.specs.declared.moment.Moment.{Moment}
 use Rattle.can_conform.specs.Runs.{before, last_event, moment_at, seen_by}
-use Rattle.can_conform.specs.Standings.{phase_name, rule_behind}
+use Rattle.can_conform.specs.Standings.{phase_name, rule_after}
 use Rattle.can_conform.proofs.RunLemmas.{rule-met, rule-stays, since-more, since-stays}
 use Rattle.can_conform.proofs.watch.Watch.follow.Goals as goal
 
@@ -34,11 +34,11 @@ returns-clause-rule g c =
     let phase = phase_name (before s t).mac in
     let seen : c.seen_by-seen.result ≡ seen_by x (unwrap_or (moment_at s t).drove Recessive) =
     c.seen_by-seen.ensures ∙ ap (seen_by x) (c.unwrap_or.ensures ∙ ap (λ (m : Moment). unwrap_or m.drove Recessive) c.requires.moment) in
-    c.rule_behind-self.ensures
-    ∙ ap (λ (m : Moment). rule_behind m.event c.args.place.phase c.seen_by-seen.result c.args.next.now) c.requires.moment
-    ∙ ap (λ n. rule_behind event n c.seen_by-seen.result c.args.next.now) c.requires.place
-    ∙ ap (λ l. rule_behind event phase l c.args.next.now) seen
-    ∙ ap (λ (m : MacState). rule_behind event phase (seen_by x (unwrap_or (moment_at s t).drove Recessive)) m) c.requires.next
+    c.rule_after-self.ensures
+    ∙ ap (λ (m : Moment). rule_after m.event c.args.place.phase c.seen_by-seen.result c.args.next.now) c.requires.moment
+    ∙ ap (λ n. rule_after event n c.seen_by-seen.result c.args.next.now) c.requires.place
+    ∙ ap (λ l. rule_after event phase l c.args.next.now) seen
+    ∙ ap (λ (m : MacState). rule_after event phase (seen_by x (unwrap_or (moment_at s t).drove Recessive)) m) c.requires.next
     ∙ rule-met s t x here
 
 pub returns-clause-since : goal.returns-clause-since

@@ -1,0 +1,197 @@
+"""`hold --wiring`: drafts a wiring module from the ports of a design, by their names and widths."""
+
+from __future__ import annotations
+
+import json
+import pathlib
+import re
+from collections.abc import Iterable
+from dataclasses import dataclass, field
+from typing import Any
+
+from holding.circuit import MODULE, Circuit
+from holding.faults import Fault
+from holding.reading import Design
+from holding.tools import ran_yosys, synthesized
+
+ENTITY = re.compile(r"^\s*entity\s+(\w+)\s+is\b", re.I | re.M)
+VHDL = (".vhd", ".vhdl")
+# the parts of a name that say nothing
+AFFIXES = re.compile(r"^(i_|o_|in_|out_)|(_i|_o|_in|_out|_reg)$")
+RECEIVED = re.compile(r"(rx|received)_?", re.I)
+RESET_LOW = re.compile(r"n_?re?se?t|re?se?t_?n|a?rst_?n|re?se?t_?b")
+# names of a design's inputs for each input of the circuit, and of its outputs for each output; the first that fits
+INPUTS = {
+    "clock": r"(sys_?|core_?)?cl(oc)?k",
+    "reset": r"a?(sync_?)?re?se?t|rst|" + RESET_LOW.pattern,
+    "integrating": r"integrat\w+|joins?|joining",
+    "enable": r"enable|en|ce|clk_?en|sample(_?point|_?strobe)?|(bit_?)?(strobe|tick)",
+    "bus": r"bus|(can_?)?rxd?|can_?rx|bus_?level|wire_?level|bus_?in",
+    "overload_request": r"overload_?req(uest)?|overload|hold",
+    "overload_count": r"overload_?count|hold_?(wish|count)",
+    "waits": r"waits?|pending|(tx|wait\w*|send)_?(req(uest)?|valid|start|pending)|send|start",
+    "wait_extended": r"(wait\w*|tx|send)_?(is_?)?(extended|ext|ide|eff)",
+    "wait_remote": r"(wait\w*|tx|send)_?(is_?)?(remote|rtr)",
+    "wait_identifier": r"(wait\w*|tx|send)_?(identifier|id)",
+    "wait_dlc": r"(wait\w*|tx|send)_?(dlc|len(gth)?)",
+    "wait_data": r"(wait\w*|tx|send)_?data",
+}
+OUTPUTS = {
+    "drive": r"drives?|(can_?)?txd?|can_?tx|level|bus_?out",
+    "tec": r"tec|tx_?err(or)?_?(count(er)?|cnt)|transmit_?error_?count(er)?",
+    "rec": r"rec|rx_?err(or)?_?(count(er)?|cnt)|receive_?error_?count(er)?",
+    "passive": r"(is_?)?(error_?)?passive",
+    "off": r"(is_?)?(bus_?)?off",
+    "event_code": r"event(_?code)?|told",
+    "frame_extended": r"(frame|rx|received)_?(is_?)?(extended|ext|ide|eff)",
+    "frame_remote": r"(frame|rx|received)_?(is_?)?(remote|rtr)",
+    "frame_identifier": r"(frame|rx|received)_?(identifier|id)",
+    "frame_dlc": r"(frame|rx|received)_?(dlc|len(gth)?)",
+    "frame_data": r"(frame|rx|received)_?data",
+}
+NEEDED = ("reset", "bus")  # inputs that the wiring has in any case
+NOTES = """
+    // Lines to copy, if the design needs them:
+    // - a reset that is active at 0: .{reset}(~reset)
+    // - a sample strobe of the design: .enable(dut.STROBE) in gates, in place of .enable(1'b1)
+    // - an enable of the design: an input `enable` of this module, to both
+    // - the first data byte as the most significant one:
+    //       wire [63:0] turned; riddlesage_bytes turned_wait (.given(wait_data), .turned(turned));
+    // - no overload requests: .overload_request(1'b0) and .overload_count(2'd0) in gates
+    // - an event that is reported one bit time later: keep the circuit's for one clock cycle, and compare that
+    //       reg [3:0] event_code; always @(posedge clock) event_code <= reset ? 4'd0 : gates.event_code;
+    // - a frame with other values in unused bits: compare what riddlesage_frame makes of both"""
+
+
+@dataclass
+class Port:
+    """A port of the design."""
+
+    name: str
+    width: int
+    is_input: bool
+
+
+@dataclass
+class Match:
+    """Which port of the design is which of the circuit's, and the others."""
+
+    inputs: dict[str, Port] = field(default_factory=dict)
+    outputs: dict[str, Port] = field(default_factory=dict)
+    others: list[Port] = field(default_factory=list)
+
+
+def plain(name: str) -> str:
+    """A name in lower case, without what says nothing."""
+    return AFFIXES.sub("", AFFIXES.sub("", name.lower()))
+
+
+def matched(ports: Iterable[Port], circuit: Circuit) -> Match:
+    """The ports by name; a width has to fit, too."""
+    match = Match()
+    widths = {"clock": 1, **circuit.inputs, **circuit.widths["output"]}
+    for port in ports:
+        known, found = (INPUTS, match.inputs) if port.is_input else (OUTPUTS, match.outputs)
+        for name, pattern in known.items():
+            if name not in found and port.width <= widths[name] and re.fullmatch(pattern, plain(port.name)):
+                found[name] = port
+                break
+        else:
+            match.others.append(port)
+    return match
+
+
+def read_ports(design: Design, room: pathlib.Path) -> tuple[str, list[Port]]:
+    """The design's top module, and its ports."""
+    entities = [name for file in design.files if file.endswith(VHDL) for name in ENTITY.findall(read(file))]
+    if entities:
+        made = synthesized([it for it in design.files if it.endswith(VHDL)], entities[-1], room)
+        others = [it for it in design.files if not it.endswith(VHDL)]
+        design = Design([*others, str(made)], design.folders, design.defines)
+    ran_yosys([design.reading(room), "hierarchy -check -auto-top", "proc", "write_json ports.json"], room)
+    modules: dict[str, Any] = json.loads((room / "ports.json").read_text())["modules"]
+    tops = [name for name, module in modules.items() if "top" in module["attributes"]]
+    if len(tops) != 1:
+        raise Fault("the files have no module that contains all others")
+    ports = modules[tops[0]]["ports"].items()
+    return tops[0], [Port(name, len(it["bits"]), it["direction"] == "input") for name, it in ports]
+
+
+def ranged(width: int) -> str:
+    """A range, if there is more than one bit."""
+    return f"[{width - 1}:0] " if width > 1 else ""
+
+
+def dut_pins(match: Match) -> list[str]:
+    """The design's instance, a line for each input."""
+    lines = []
+    for name, port in match.inputs.items():
+        inverted = name == "reset" and RESET_LOW.fullmatch(plain(port.name))
+        lines.append(f".{port.name}({'~' if inverted else ''}{name})")
+    tied = [f".{it.name}({it.width}'d0)" for it in match.others if it.is_input]
+    return [*lines, *tied]
+
+
+def notes(match: Match, circuit: Circuit) -> list[str]:
+    """Comments on what was not matched."""
+    missing = [name for name in circuit.inputs if name not in match.inputs and name not in (*NEEDED, "enable")]
+    others = sorted(match.others, key=lambda port: not port.is_input)
+    texts = [f"input {it.name}, which is 0" if it.is_input else f"output {it.name}" for it in others]
+    texts += [f"the circuit's input {name}, which is 0" for name in missing]
+    texts += [f"the circuit's input {name}" for name in ("clock", *NEEDED) if name not in match.inputs]
+    texts += [f"the circuit's output {name}" for name in OUTPUTS if name not in match.outputs]
+    return [f"    // not matched: {text}" for text in texts]
+
+
+def parts_of(match: Match) -> dict[str, str]:
+    """The outputs of the wiring module with their values."""
+    parts = {}
+    if "overload_count" in match.inputs:
+        parts["given_overload_count"] = "overload_count != 2'd3"
+    for name in (it for it in OUTPUTS if it in match.outputs):
+        port = match.outputs[name].name
+        when = "" if not name.startswith("frame_") else "!received || " if RECEIVED.match(port) else "!has_frame || "
+        parts[f"same_{name}"] = f"{when}gates.{name} == dut.{port}"
+    return parts
+
+
+def gates_pins(match: Match, circuit: Circuit) -> list[str]:
+    """The circuit's instance, a line for each input."""
+    lines = [".clock(clock)"]
+    for name, width in circuit.inputs.items():
+        tied = "1'b1" if name == "enable" else f"{width}'d0"
+        lines.append(f".{name}({name if name in match.inputs or name in NEEDED else tied})")
+    return lines
+
+
+def listed(lines: Iterable[str], space: str) -> str:
+    """Lines with commas between them."""
+    return space + f",\n{space}".join(lines)
+
+
+def draft(top: str, ports: list[Port], circuit: Circuit) -> str:
+    """The text of the wiring module."""
+    match = matched(ports, circuit)
+    widths = {name: it for name, it in circuit.inputs.items() if name in match.inputs or name in NEEDED}
+    parts = parts_of(match)
+    inputs = ["input clock", *(f"input {ranged(width)}{name}" for name, width in widths.items())]
+    reset = match.inputs["reset"].name if "reset" in match.inputs else "reset"
+    lines = ["// Wiring for hold --play, a draft: review each line. dut is the design, gates the circuit.", ""]
+    lines += ["module wiring (", listed([*inputs, *(f"output {name}" for name in parts)], "    "), ");"]
+    lines += [f"    {MODULE} gates (", listed(gates_pins(match, circuit), "        "), "    );"]
+    lines += [f"    {top} dut (", listed(dut_pins(match), "        "), "    );", ""]
+    if any("_frame_" in name for name in parts):
+        lines.append("    wire received = gates.event_code == 4'd2, has_frame = received || gates.event_code == 4'd1;")
+    lines += [f"    assign {name} = {value};" for name, value in parts.items()]
+    lines += ["", *notes(match, circuit), NOTES.strip("\n").replace("{reset}", reset), "endmodule", ""]
+    return "\n".join(lines)
+
+
+def read(path: str) -> str:
+    """A file's text."""
+    return pathlib.Path(path).read_text(encoding="utf-8", errors="replace")
+
+
+def draft_wiring(design: Design, circuit: Circuit, room: pathlib.Path) -> str:
+    """The draft for a design's files."""
+    return draft(*read_ports(design, room), circuit)
