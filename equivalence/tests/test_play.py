@@ -172,7 +172,9 @@ class Refusals(Played):
             if found := shutil.which(tool):
                 (self.room / tool).symlink_to(found)
         files = (self.put("wiring.v", wiring(SAME)), self.put("small.v", DESIGN))
-        ran = self.run_hold("--play", *files, path=str(self.room))
+        # cangates, if it is built, would need a shell
+        circuit = str(FOLDER / f"{MODULE}.v")
+        ran = self.run_hold("--play", "--circuit", circuit, *files, path=str(self.room))
         self.prints(ran, 3, "no C++ compiler is installed, which builds the simulator: apt-get install g++")
 
     def test_wrong_usage(self) -> None:
