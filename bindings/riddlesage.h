@@ -120,7 +120,7 @@ typedef enum riddlesage_state {
 
 /**
  * The phase of a port before a bit time. Its name without RIDDLESAGE_PHASE_ is that of the verdicts of canhold. `place`
- * is the progress within the phase, as each says.
+ * is the place within the phase, as each says.
  */
 typedef enum riddlesage_phase {
   RIDDLESAGE_PHASE_IDLE = 0,          /**< between frames, and free to send */
@@ -161,7 +161,7 @@ typedef enum riddlesage_rule {
 /** The protocol state of a port before a bit time. */
 typedef struct riddlesage_standing {
   uint8_t phase;  /**< a riddlesage_phase */
-  uint8_t place;  /**< progress within the phase; 0 in phases of one bit, and when idle */
+  uint8_t place;  /**< place within the phase; 0 in phases of one bit, and when idle */
   uint8_t sender; /**< 1 if the port is the transmitter of the frame on the bus, otherwise 0 */
   uint8_t rule;   /**< the riddlesage_rule that decides in this phase */
 } riddlesage_standing;
@@ -325,7 +325,7 @@ riddlesage_status riddlesage_port_state(riddlesage_port *port, uint8_t *state);
  * which the flag was started. This call, which knows only the present state, names ERROR_FLAGS or OVERLOAD_FLAGS; the
  * event of the bit time before says what started the flag.
  * @param port the port
- * @param[out] standing phase, progress, role and rule
+ * @param[out] standing phase, place, role and rule
  * @return OK, NULL_POINTER, MOVED, NO_PORT
  */
 riddlesage_status riddlesage_port_phase(riddlesage_port *port, riddlesage_standing *standing);

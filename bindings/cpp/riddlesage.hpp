@@ -203,7 +203,7 @@ struct Entry {
 /// The protocol state of a port before a bit time.
 struct Standing {
   Phase phase = Phase::idle;
-  std::uint8_t place = 0; ///< progress within the phase; 0 in phases of one bit, and when idle
+  std::uint8_t place = 0; ///< place within the phase; 0 in phases of one bit, and when idle
   bool sender = false;    ///< whether the port is the transmitter of the frame on the bus
   Rule rule = Rule::start_of_frame;
 

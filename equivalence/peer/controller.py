@@ -117,7 +117,7 @@ class Controller:
         """The circuit's registers."""
         put = self.graph.register
         self.phase = put("phase", 4, "idle 0, joining 1, stuffed part 2, .., bus off 14")
-        self.place = put("place", 4, "the position in the phase, or a count of levels in a row")
+        self.place = put("place", 4, "the place within the phase, or a count of levels in a row")
         (self.last,) = put("last", 1, "in a passive error flag: its last level was recessive")
         (self.unacknowledged,) = put("unacknowledged", 1, "in a passive error flag: that of a missing acknowledgement")
         (self.first,) = put("first", 1, "after a flag: the next level is the first after an error flag")
@@ -199,11 +199,11 @@ class Controller:
         return self.choose(asks, own, self.goes(INTERMISSION))
 
     def under(self, number: int) -> int:
-        """Whether the position is less."""
+        """Whether the place is less."""
         return self.graph.is_under(self.place, number)
 
     def step(self, phase: int) -> Move:
-        """The next position in the same phase."""
+        """The next place within the same phase."""
         return self.goes(phase, self.next_place)
 
     # between frames

@@ -88,7 +88,7 @@ class Rule(enum.IntEnum):
 
 
 class Standing(NamedTuple):
-    """The protocol state of a port before a bit time: phase, progress within it, role, and the rule that decides."""
+    """The protocol state of a port before a bit time: phase, place within it, role, and the rule that decides."""
 
     phase: Phase
     place: int

@@ -96,7 +96,7 @@ impl EventKind {
     }
 }
 
-/// The phase of a port before a bit time, and the progress within it.
+/// The phase of a port before a bit time, and the place within it.
 #[derive(Clone, Copy, Debug, PartialEq, Eq, Hash)]
 pub enum Phase {
     /// Between frames, and free to send.
