@@ -2,7 +2,7 @@
 
 from __future__ import annotations
 
-DIFFERS, USAGE, FAILED, NOTHING_HELD = 1, 2, 3, 5
+DIFFERS, USAGE, FAILED, NOT_PROVED, NOTHING_HELD = range(1, 6)
 
 
 class Fault(Exception):

@@ -8,7 +8,7 @@ from typing import Union
 from holding.circuit import MODULE, Circuit
 from holding.faults import Fault
 from holding.gates import FALSE, TRUE, Gates
-from holding.relation import Relation
+from holding.relation import Relation, called
 
 Key = Union[int, str]  # a bit of a netlist: yosys's number, or a name for one that yosys doesn't have
 Side = tuple[Key, bool]  # with whether it is negated
@@ -66,15 +66,24 @@ class Netlist:
         self.parts = {name: self.keys(it["bits"]) for name, it in ports.items() if it["direction"] == "output"}
         self.words = {f"gates.{name}": self.circuit_word(name, width) for name, width in circuit.words.items()}
         self.words |= {name: self.keys(net["bits"]) for name, net in design_words(module).items()}
+        # the lowest index of a word of the design, and whether it is that of the most significant bit
+        self.indexes = {
+            name: (net.get("offset", 0), bool(net.get("upto"))) for name, net in design_words(module).items()
+        }
         self.named: dict[Key, str] = {}  # bits of words, preferably by the mapping's names
         for name, net in module["netnames"].items():
             said = hierarchical(name, net)
-            if said in relation.names:
+            if said in relation.names and called(said) == said:
                 if "hdlname" not in net["attributes"]:
                     self.join(net["bits"], self.words[said])
                     self.named |= dict.fromkeys(net["bits"], said)
             elif said and "hdlname" not in net["attributes"]:
                 self.words.setdefault(said, self.keys(net["bits"]))
+        for name in relation.names:
+            if called(name) != name and name in self.words and called(name) in module["netnames"]:
+                bits = module["netnames"][called(name)]["bits"]
+                self.join(bits, self.words[name])
+                self.named |= dict.fromkeys(bits, name)
         self.take_circuit()
         if set(self.named.values()) != set(relation.names):
             raise Fault("yosys has removed a word that the register mapping names")

@@ -9,11 +9,12 @@ from dataclasses import dataclass
 from holding.circuit import Circuit
 from holding.faults import Fault
 from holding.netlist import MUTATION, Netlist, declared_range, design_words
-from holding.relation import Relation
+from holding.relation import Relation, called
 from holding.tools import ran_yosys, read_netlist, synthesized
 
 MUTATIONS = 7
-FIELDS = pathlib.Path(__file__).resolve().parent.parent / "fields.v"
+FOLDER = pathlib.Path(__file__).resolve().parent.parent
+FIELDS, WORDS = FOLDER / "fields.v", FOLDER / "words.v"
 WIDEST = "[127:0]"  # wide enough to find the names
 
 
@@ -51,8 +52,9 @@ def flattened(
     """The commands that read all of it as one module."""
     (room / "stub.v").write_text(circuit.stub)
     (room / "relation.v").write_text(relation.declaring(ranges))
+    modules = [FIELDS, *([WORDS] if "riddlesage_words" in relation.text else [])]
     return [
-        f'read_verilog stub.v "{FIELDS}"',
+        " ".join(["read_verilog stub.v", *(f'"{it}"' for it in modules)]),
         design.reading(room),
         "read_verilog relation.v",
         f"hierarchy -check -top {relation.module}",
@@ -65,8 +67,12 @@ def named_ranges(design: Design, circuit: Circuit, relation: Relation, room: pat
     """The ranges of the words that a register mapping names. Raises Fault for one that doesn't exist."""
     wide = dict.fromkeys(relation.names, WIDEST)
     script = flattened(design, circuit, relation, wide, room)
+    rows = [name for name in relation.names if called(name) != name]
+    if rows:  # rows of memories are words only then
+        script += ["setattr -set keep 1 w:*", "memory"]
     ran_yosys([*script, "write_json names.json"], room)
-    nets = design_words(read_netlist(room / "names.json", relation.module))
+    module = read_netlist(room / "names.json", relation.module)
+    nets = design_words(module) | {name: net for name, net in module["netnames"].items() if name in rows}
     ranges = {f"gates.{name}": f"[{width - 1}:0]" for name, width in circuit.words.items()}
     ranges |= {name: declared_range(net) for name, net in nets.items()}
     gone = [name for name in relation.names if name not in ranges]
@@ -95,7 +101,7 @@ def injecting(relation: Relation, smoke: bool) -> list[str]:
     Without `smoke` it is a register that the mapping names; with it, one that a named word depends on. If the mapping
     names none, it is any register.
     """
-    names = [name for name in relation.names if name.startswith("dut.")]
+    names = [name for name in relation.names if name.startswith("dut.") and called(name) == name]
     nets = " ".join(f"a:hdlname={name.replace('.', '?')}" for name in names or ["dut.*"])
     cone = "%ci*" if smoke else "%ci3"
     width = MUTATIONS.bit_length()

@@ -14,6 +14,7 @@ from holding.faults import Fault
 
 COMMENT = re.compile(r'//[^\n]*|/\*.*?\*/|"(?:\\.|[^"\\])*"', re.S)
 NAMED = re.compile(r"(?<![\w$.\\])(gates|dut)((?:\s*\.\s*[A-Za-z_]\w*)+)")
+ROW = re.compile(r"\\(dut\.[^\s\[]+\[\d+\])(?=\s)")  # a row of a memory, by its escaped name
 INSTANCE = re.compile(r"\b(\w+)\s*(?:#\s*\((?:[^()]|\([^()]*\))*\)\s*)?\b(gates|dut)\s*\(")
 HEAD = re.compile(r"\bmodule\s+(\w+)\b[^;]*;", re.S)
 
@@ -31,8 +32,14 @@ class Relation:
 
     def declaring(self, ranges: dict[str, str]) -> str:
         """The text with the words that it names declared, with these ranges, at the end of the module's header."""
-        words = [f"wire {ranges[name]} \\{name} ;" for name in self.names]
-        return " ".join([self.text[: self.head_end], *words]) + self.text[self.head_end :]
+        words = [f"wire {ranges[name]} \\{called(name)} ;" for name in self.names]
+        body = ROW.sub(lambda found: f"\\{called(found[1])}", self.text[self.head_end :])
+        return " ".join([self.text[: self.head_end], *words]) + body
+
+
+def called(name: str) -> str:
+    """What yosys is to call a word that the mapping names: it names rows of memories only if their names are free."""
+    return f"row:{name}" if "[" in name else name
 
 
 def blanked(text: str) -> str:
@@ -51,4 +58,5 @@ def read_relation(text: str, path: str) -> Relation:
     if ("gates", MODULE) not in instances or len(tops) != 1 or len(instances) != 2:
         raise Fault(f"{path}: the module must have one instance `gates` of {MODULE}, and one `dut` of the design")
     names = {found[1] + re.sub(r"\s", "", found[2]): None for found in NAMED.finditer(code)}
+    names |= dict.fromkeys(ROW.findall(code))
     return Relation(path, text, heads[0][1], tops[0], list(names), heads[0].end())

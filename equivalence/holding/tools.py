@@ -15,6 +15,7 @@ from holding.gates import Gates
 
 SOLVERS = {"cadical": "cadical", "abc": "berkeley-abc"}
 MISSING = re.compile(r"Module `\\?(\S+)' referenced in module `\\?(\S+)' in cell `\\?(\S+)' is not part of the design")
+STRING = re.compile(r'"([01xzXZ-]+)"')
 GHDL_ERROR = re.compile(r":\d+:\d+: |error|raised")
 PACKAGES = {"yosys": "yosys", "cadical": "cadical", "berkeley-abc": "berkeley-abc"}
 
@@ -60,7 +61,8 @@ def synthesized(files: Sequence[str], top: str, room: pathlib.Path) -> pathlib.P
     if ran.returncode:
         errors = [line for line in ran.stderr.splitlines() if GHDL_ERROR.search(line)]
         raise Fault("ghdl: " + "; ".join(errors or [f"status {ran.returncode}"]))
-    made.write_text(ran.stdout)
+    # GHDL 2.0 writes constants of more than 32 bits as strings, which in Verilog have eight bits a character
+    made.write_text(STRING.sub(lambda found: f"{len(found[1])}'b{found[1].replace('-', 'x')}", ran.stdout))
     return made
 
 

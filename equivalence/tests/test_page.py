@@ -12,14 +12,15 @@ import unittest
 FOLDER = pathlib.Path(__file__).resolve().parent.parent
 TOP = FOLDER.parent
 # the pages with sessions of `hold`, and how many each has
-PAGES = {FOLDER / "README.md": 4, TOP / "bindings" / "vhdl" / "README.md": 1}
+PAGES = {FOLDER / "README.md": 5, TOP / "bindings" / "vhdl" / "README.md": 1}
+CADICAL = pathlib.Path("/usr/include/cadical.hpp")
 sys.path.insert(0, str(FOLDER))
 
 from holding.tools import SOLVERS
 
 FAILS = re.compile(r"  \w+ fails: ")
-# how much --play has played in its time
-COUNTED = re.compile(r"(played|frames|errors|difference): |overload frames |no difference in |  [A-Z][\w ]+ [\d-]")
+# how much --play has played in its time, and what --find has searched
+COUNTED = re.compile(r"(learned|searched|found|played|frames|errors|difference): |overload frames |no difference in |  [A-Z][\w ]+ [\d-]")
 NUMBER = r" (?:\d+|0x[0-9a-f]+)"
 # times, the circuit, the self-check's mutation, counters, roles, a pending frame or request, and values of registers
 CHOSEN = [
@@ -81,10 +82,10 @@ class Page(unittest.TestCase):
     def test_sessions(self) -> None:
         self.assertEqual({page: len(sessions(page)) for page in PAGES}, PAGES)
         for command, shown in (it for page in PAGES for it in sessions(page).items()):
-            if ".vhd" in command and not shutil.which("ghdl"):
+            if ".vhd" in command and not shutil.which("ghdl") or "--find" in command and not CADICAL.exists():
                 continue
             with self.subTest(command):
-                ran = subprocess.run(["bash", "-c", command], cwd=TOP, capture_output=True, text=True, timeout=300)
+                ran = subprocess.run(["bash", "-c", command], cwd=TOP, capture_output=True, text=True, timeout=900)
                 printed = ran.stdout.splitlines()
                 self.assertTrue(are_shown(shown, printed), "\n".join([*printed, ran.stderr]))
 

@@ -306,8 +306,9 @@ class Building(unittest.TestCase):
         with tempfile.TemporaryDirectory() as made:
             room = pathlib.Path(made)
             (room / "main.cc").write_text("int main() { return gone; }\n")
-            with mock.patch.object(building, "SOURCES", room), self.assertRaises(Fault) as caught:
-                building.compiled(building.compiler(), room / "made")
+            engine = building.Engine("play", "simulator", (made,))
+            with self.assertRaises(Fault) as caught:
+                building.compiled(building.compiler("simulator"), engine, room / "made")
             self.assertIn("can't compile the simulator", str(caught.exception))
 
 

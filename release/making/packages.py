@@ -34,7 +34,7 @@ Maintainer: nobody yet <nobody@example.invalid>
 Installed-Size: {size}
 Depends: libc6 (>= {libc})
 Recommends: python3 (>= 3.9)
-Suggests: python3-pytest, pkg-config, iverilog, verilator, ghdl, yosys, cadical
+Suggests: python3-pytest, pkg-config, iverilog, verilator, ghdl, yosys, cadical, g++, libcadical-dev
 Description: formally verified reference model of classical CAN
  canbit encodes frames, decodes traces, and simulates a bus with injected bit
  errors. canhold judges controllers with a conformance test kit. canplan

@@ -49,6 +49,15 @@ public:
         return found->second;
     }
     int number(const std::string &name) const { return list(name).at(0); }
+    // A new gate: the AND of two literals.
+    Literal both(Literal a, Literal b) {
+        if (a == 0 || b == 0 || a == (b ^ 1)) return 0;
+        if (a == 1 || a == b) return b;
+        if (b == 1) return a;
+        gates.push_back({a, b});
+        return 2 * (static_cast<int>(gates.size()) - 1);
+    }
+    void set(const std::string &name, const std::vector<int> &numbers) { lists[name] = numbers; }
 
     std::vector<Gate> gates;  // by signals, each after those that it reads
 

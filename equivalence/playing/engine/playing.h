@@ -3,6 +3,7 @@
 
 #include <chrono>
 #include <cstdint>
+#include <functional>
 #include <utility>
 #include <vector>
 
@@ -43,6 +44,7 @@ public:
           totals(counted.size(), 0) {
         if (program.is_late(wiring.own.drive))
             throw std::runtime_error("the level that gates drives depends on the bus");
+        own_requests.threes = wiring.given.empty();  // an assumption may forbid them
         own_queue.compete_with(partner_queue);
         partner_queue.compete_with(own_queue);
         wiring.choose_change(program, choice.change, dice);
@@ -53,6 +55,10 @@ public:
         const double end = now_in_seconds() + seconds;
         while (found.lane < 0 && cycle < cycles && ((cycle & 63) || now_in_seconds() < end)) step();
     }
+    // Is called before each clock edge, with the lanes whose state a run has reached, and the clock cycle.
+    using Watch = std::function<void(const Program &, const Lanes &, std::int64_t)>;
+    void watch(Watch given) { watching = std::move(given); }
+
     // Plays up to and including the cycle in which outputs differed, and records that lane.
     Run recorded(const Found &given) {
         recording = given.lane;
@@ -74,7 +80,8 @@ private:
     Literals roots(const Graph &graph) const {
         Literals made = wiring.roots();
         for (const Register &held : partner_registers) made.insert(made.end(), {2 * held.signal, held.next});
-        for (const Literals &more : {partner.outputs(), counted, graph.list("phase"), graph.list("sender")})
+        for (const Literals &more : {partner.outputs(), counted, graph.list("phase"), graph.list("sender"),
+                                     graph.list("key"), graph.list("watched")})
             made.insert(made.end(), more.begin(), more.end());
         return made;
     }
@@ -92,6 +99,7 @@ private:
         const Lanes enabled = program.value(wiring.enable), compared = valid & ~resets & enabled;
         compare(compared);
         count_all(compared);
+        if (watching) watching(program, compared, cycle);
         if (recording >= 0) take_record(has(resets, recording), has(enabled, recording));
         fresh = enabled | resets;
         end_step();
@@ -275,6 +283,7 @@ private:
     std::int64_t cycle = 0, played = 0, lost = 0;
     std::vector<std::int64_t> totals;
     Found found;
+    Watch watching;
     int recording = -1;
     Run record;
 };

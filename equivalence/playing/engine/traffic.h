@@ -151,14 +151,15 @@ private:
     Lanes waiting = none(), changed = all();
 };
 
-// Requests of 0 to 2 own overload frames.
+// Requests of 0 to 2 own overload frames; with `threes` also of 3, which change nothing.
 struct Requests {
+    bool threes = false;
     Lanes asks = none(), low = none(), high = none();
 
     void begin(Program &program, Random &random, const Node &node, Lanes wanted, Lanes now) {
         asks = choose(now, wanted & random.rare(4), asks);
         high = choose(now, random.half(), high);
-        low = choose(now, random.half() & ~high, low);
+        low = choose(now, random.half() & (threes ? ~high | random.rare(3) : ~high), low);
         node.request.drive(program, asks);
         node.amount[0].drive(program, low);
         node.amount[1].drive(program, high);

@@ -1,0 +1,1 @@
+"""Finds the register mapping: learns it from a play, and proves it."""

@@ -1,0 +1,186 @@
+// Learns what holds in the states that a play reaches, and proves the part of it that the outputs need. It is compiled
+// and called by equivalence/hold --find, with a graph that Python wrote, and prints what Python reads: a word and
+// numbers on a line.
+//
+//     find GRAPH SEED CYCLES SECONDS
+//
+// CYCLES is for how many clock cycles of 512 lanes it plays; SECONDS the time limit of the proof. The status is 4 if
+// outputs differ.
+
+#include <cstdio>
+#include <cstdlib>
+#include <exception>
+#include <set>
+#include <utility>
+
+#include "../../playing/engine/playing.h"
+#include "proving.h"
+
+namespace find {
+
+constexpr std::size_t MOST = 128;  // states of a kind
+constexpr int EVERY = 4;           // clock cycles between samples
+constexpr int ROUNDS = 3;
+
+void print(const char *word, double begun) {
+    std::fprintf(stderr, "%7.1f s  %s\n", play::now_in_seconds() - begun, word);
+}
+
+Samples sampled(const Graph &graph, std::uint64_t seed, std::int64_t cycles, bool &is_different) {
+    Samples made(graph, MOST);
+    play::Playing playing(graph, {seed, 0});
+    playing.watch([&](const Program &program, const Lanes &which, std::int64_t cycle) {
+        if (cycle % EVERY == 0) made.take(program, which);
+    });
+    playing.run(1e9, cycles);
+    is_different = playing.difference().lane >= 0;
+    return made;
+}
+
+// The graph with a gate for each guess that is 1 where it doesn't hold.
+Graph watching(const Graph &graph, const Conditions &conditions, const std::vector<Guess> &guesses) {
+    Graph made = graph;
+    const auto both = [&](Literal a, Literal b) { return made.both(a, b); };
+    Literals watched;
+    for (const Guess &guess : guesses) {
+        const Literal target = 2 * guess.target, condition = conditions.literal(guess.condition);
+        Literal differs = target ^ guess.literal;
+        if (guess.literal > 1)
+            differs = both(both(target, guess.literal) ^ 1, both(target ^ 1, guess.literal ^ 1) ^ 1);
+        watched.push_back(condition == 1 ? differs : both(condition, differs));
+    }
+    made.set("watched", watched);
+    return made;
+}
+
+// Plays once more, and gives up the guesses that don't hold in a state it reaches, which becomes a sample.
+std::vector<Guess> refuted(const Graph &graph, const Conditions &conditions, const std::vector<Guess> &guesses,
+                           std::uint64_t seed, std::int64_t cycles, Samples &samples) {
+    const Graph watched = watching(graph, conditions, guesses);
+    const Literals &literals = watched.list("watched");
+    std::vector<Guess> gone;
+    std::vector<std::size_t> left(guesses.size());
+    for (std::size_t at = 0; at < left.size(); at++) left[at] = at;
+    play::Playing playing(watched, {seed, 0});
+    playing.watch([&](const Program &program, const Lanes &which, std::int64_t) {
+        std::size_t kept = 0;
+        for (const std::size_t at : left) {
+            const Lanes found = program.value(literals[at]) & which;
+            if (!play::any(found)) {
+                left[kept++] = at;
+                continue;
+            }
+            gone.push_back(guesses[at]);
+            int lane = -1;
+            play::each(found, [&](int one) { lane = lane < 0 ? one : lane; });
+            samples.add(program, lane);
+        }
+        left.resize(kept);
+    });
+    playing.run(1e9, cycles);
+    return gone;
+}
+
+void print_guess(const char *word, const Guess &guess) {
+    std::printf("%s %d %d %d\n", word, guess.condition, guess.target, guess.literal);
+}
+
+// The first of the guesses about each register under each condition.
+std::vector<Guess> first_of_each(const std::vector<Guess> &guesses) {
+    std::set<std::pair<int, int>> known;
+    std::vector<Guess> made;
+    for (const Guess &guess : guesses)
+        if (known.insert({guess.condition, guess.target}).second) made.push_back(guess);
+    return made;
+}
+
+// False if outputs differ.
+bool find(Graph graph, std::uint64_t seed, std::int64_t cycles, double seconds) {
+    const double begun = play::now_in_seconds();
+    bool is_different = false;
+    Samples samples = sampled(graph, seed, cycles, is_different);
+    if (is_different) return false;
+    std::printf("samples %zu %zu\n", samples.size(), samples.number_of_kinds());
+    print("played", begun);
+    Conditions conditions(graph);
+    std::vector<Guess> guesses, dead;
+    for (int round = 0; round < ROUNDS; round++) {
+        Guessing guessing(graph, conditions, samples);
+        guesses = guessing.all(dead);
+        const std::vector<Guess> ranges = guessing.ranges(graph);
+        guesses.insert(guesses.begin(), ranges.begin(), ranges.end());
+        print("guessed", begun);
+        const std::vector<Guess> gone = refuted(graph, conditions, guesses, seed + 1 + round, cycles / 4, samples);
+        std::fprintf(stderr, "          %zu guesses, %zu refuted by play\n", guesses.size(), gone.size());
+        print("played again", begun);
+        dead.insert(dead.end(), gone.begin(), gone.end());
+        if (gone.empty()) break;
+    }
+    std::printf("guesses %zu\n", guesses.size());
+    // after a reset
+    Proving after_reset(graph, conditions, guesses, true);
+    after_reset.run(true, seconds);
+    std::vector<Guess> kept;
+    for (std::size_t at = 0; at < after_reset.all().size(); at++)
+        if (after_reset.is_alive(at)) kept.push_back(after_reset.all()[at]);
+    std::fprintf(stderr, "          %zu hold after a reset\n", kept.size());
+    print("reset", begun);
+    Proving step(graph, conditions, kept, false);
+    const bool is_done = step.run(false, seconds);
+    const Proving::Counts &counts = step.counts();
+    std::printf("asked %lld %lld %lld\n", static_cast<long long>(counts.questions),
+                static_cast<long long>(counts.answered), static_cast<long long>(counts.gone));
+    print(is_done ? "step" : "time is up", begun);
+    const std::size_t outputs = graph.list("same").size();
+    std::printf("outputs");
+    for (std::size_t at = 0; at < outputs; at++) std::printf(" %d", is_done && step.output_is_proved(at));
+    std::printf("\n");
+    const std::vector<Guess> &all = step.all();
+    const std::vector<char> stands = step.standing();
+    std::vector<Guess> proved;
+    for (std::size_t at = 0; at < all.size(); at++)
+        if (is_done ? stands[at] : step.is_alive(at)) proved.push_back(all[at]);
+    // a mapping is easier to read if a register equals one thing under a condition
+    std::vector<Guess> kept_alone = first_of_each(proved);
+    std::vector<char> standing;
+    for (std::vector<Guess> *some : {&kept_alone, &proved}) {
+        if (!is_done) break;
+        Proving again(graph, conditions, *some, false, true);
+        const bool is_reduced = again.reduce(seconds);
+        print(is_reduced ? "reduced" : "not reduced", begun);
+        if (!is_reduced) continue;
+        proved = *some;
+        standing = again.standing();
+        break;
+    }
+    for (std::size_t at = 0; at < proved.size(); at++)
+        print_guess(!standing.empty() && standing[at] ? "needed" : "left", proved[at]);
+    for (const Refuting &state : step.refuting()) {
+        std::printf("state %s", state.registers.c_str());
+        for (const int at : state.gone) std::printf(" %d", at);
+        std::printf("\n");
+    }
+    for (const Guess &guess : all) print_guess("guess", guess);
+    const std::vector<int> &limits = graph.list("limits");
+    for (std::size_t at = 0; at + 2 < limits.size(); at += 3)
+        std::printf("limit %d %d %d\n", limits[at], limits[at + 1], limits[at + 2]);
+    return true;
+}
+
+}  // namespace find
+
+int main(int count, char **words) {
+    if (count != 5) {
+        std::fprintf(stderr, "usage: find GRAPH SEED CYCLES SECONDS\n");
+        return 2;
+    }
+    try {
+        const play::Graph graph(words[1]);
+        const std::uint64_t seed = std::strtoull(words[2], nullptr, 10);
+        if (!find::find(graph, seed, std::atoll(words[3]), std::atof(words[4]))) return 4;
+    } catch (const std::exception &fault) {
+        std::fprintf(stderr, "%s\n", fault.what());
+        return 3;
+    }
+    return 0;
+}

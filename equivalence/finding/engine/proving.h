@@ -1,0 +1,437 @@
+// Which guesses are proved: the greatest part of them that is inductive, as far as the outputs need it.
+#pragma once
+
+#include <array>
+#include <cadical.hpp>
+#include <chrono>
+#include <cstdint>
+#include <cstdio>
+#include <map>
+#include <memory>
+#include <unordered_map>
+#include <vector>
+
+#include "guessing.h"
+
+namespace find {
+
+// Gates with structural hashing.
+class Gates {
+public:
+    Literal fresh() {
+        gates.push_back({-1, -1});
+        return 2 * (static_cast<int>(gates.size()) - 1);
+    }
+    Literal both(Literal a, Literal b) {
+        if (a > b) std::swap(a, b);
+        if (a == 0 || a == (b ^ 1)) return 0;
+        if (a == 1 || a == b) return b;
+        const std::uint64_t sides = static_cast<std::uint64_t>(a) << 32 | static_cast<std::uint32_t>(b);
+        const auto found = known.find(sides);
+        if (found != known.end()) return found->second;
+        const Literal made = fresh();
+        gates[made >> 1] = {a, b};
+        known[sides] = made;
+        return made;
+    }
+    Literal differ(Literal a, Literal b) { return both(both(a, b) ^ 1, both(a ^ 1, b ^ 1) ^ 1); }
+
+    std::vector<Gate> gates{{-1, -1}};
+
+private:
+    std::unordered_map<std::uint64_t, Literal> known;
+};
+
+// Two bit times of the graph as clauses of an incremental solver.
+class Unrolled {
+public:
+    // With `resets` the first bit time is a reset; the second one never is.
+    Unrolled(const Graph &graph, bool resets) : graph(graph), resets(resets), next(graph.gates.size(), -1) {
+        for (const Register &held : play::registers_of(graph, "registers")) next[held.signal] = held.next;
+        for (auto &frame : frames) frame.assign(graph.gates.size(), -1);
+        solver.set("quiet", 1);
+        clause({-1});  // signal 0 is false
+    }
+
+    Literal of(int frame, Literal literal) {
+        std::vector<int> waiting{literal >> 1};
+        std::vector<int> &made = frames[frame];
+        while (!waiting.empty()) {
+            const int signal = waiting.back();
+            if (made[signal] >= 0) {
+                waiting.pop_back();
+                continue;
+            }
+            const Gate gate = graph.gates[signal];
+            if (gate.is_gate()) {
+                const int a = made[gate.a >> 1], b = made[gate.b >> 1];
+                if (a >= 0 && b >= 0) made[signal] = gates.both(a ^ (gate.a & 1), b ^ (gate.b & 1));
+                if (a < 0) waiting.push_back(gate.a >> 1);
+                if (b < 0) waiting.push_back(gate.b >> 1);
+            } else if (signal == 0 || signal == graph.number("reset")) {
+                made[signal] = signal != 0 && frame == 0 && resets;
+            } else {
+                made[signal] = next[signal] >= 0 && frame > 0 ? of(frame - 1, next[signal]) : gates.fresh();
+            }
+        }
+        return made[literal >> 1] ^ (literal & 1);
+    }
+    Literal violation(int frame, Literal condition, const Guess &guess) {
+        return gates.both(of(frame, condition), gates.differ(of(frame, 2 * guess.target), of(frame, guess.literal)));
+    }
+
+    void require(Literal literal) { clause({number(literal)}); }
+    // The solver's number of a literal, whose gates it knows from now on.
+    int number(Literal literal) {
+        std::vector<int> waiting{literal >> 1};
+        if (numbers.size() < gates.gates.size()) numbers.resize(gates.gates.size(), 0);
+        numbers[0] = 1;
+        while (!waiting.empty()) {
+            const int signal = waiting.back();
+            const Gate gate = gates.gates[signal];
+            if (numbers[signal]) {
+                waiting.pop_back();
+            } else if (gate.is_gate() && !(numbers[gate.a >> 1] && numbers[gate.b >> 1])) {
+                waiting.push_back(gate.a >> 1);
+                waiting.push_back(gate.b >> 1);
+            } else {
+                numbers[signal] = variable();
+                if (!gate.is_gate()) continue;
+                const int z = numbers[signal], a = signed_number(gate.a), b = signed_number(gate.b);
+                clause({-z, a});
+                clause({-z, b});
+                clause({z, -a, -b});
+            }
+        }
+        return signed_number(literal);
+    }
+    int variable() { return ++variables; }
+    void clause(const std::vector<int> &numbers_of) {
+        for (const int one : numbers_of) solver.add(one);
+        solver.add(0);
+    }
+    bool value(Literal literal) {
+        const int one = signed_number(literal);
+        return (solver.val(std::abs(one)) > 0) == (one > 0);
+    }
+    bool is_known(Literal literal) const {
+        return static_cast<std::size_t>(literal >> 1) < numbers.size() && numbers[literal >> 1];
+    }
+
+    CaDiCaL::Solver solver;
+    Gates gates;
+
+private:
+    int signed_number(Literal literal) const { return literal & 1 ? -numbers[literal >> 1] : numbers[literal >> 1]; }
+
+    const Graph &graph;
+    bool resets;
+    std::vector<int> next, frames[2], numbers;
+    int variables = 1;
+};
+
+// A state before a bit time after which some guesses don't hold, as the values of registers: '?' is any.
+struct Refuting {
+    std::string registers;
+    std::vector<int> gone;
+};
+
+class Proving {
+public:
+    struct Counts {
+        std::int64_t questions = 0, answered = 0, gone = 0;
+    };
+
+    // The guesses after `outputs` places are those about registers; the ones before are the compared outputs.
+    Proving(const Graph &graph, const Conditions &conditions, const std::vector<Guess> &given_guesses, bool resets,
+            bool fine = false)
+        : graph(graph),
+          conditions(conditions),
+          resets(resets),
+          fine(fine),
+          unrolled(graph, resets),
+          own(graph.list("own").begin(), graph.list("own").end()) {
+        const Literals &pairs = graph.list("partners");
+        for (std::size_t at = 0; at + 1 < pairs.size(); at += 2)
+            kinds[pairs[at] >> 1] = pairs[at + 1];
+        const Literals &same = graph.list("same"), &given = graph.list("given");
+        for (const Literal literal : given) {
+            unrolled.require(unrolled.of(0, literal));
+            unrolled.require(unrolled.of(1, literal));
+        }
+        if (!resets) unrolled.require(unrolled.of(0, graph.number("legal")));
+        outputs = same.size();
+        const std::vector<int> &held = graph.list("held");
+        for (std::size_t at = 0; at < same.size(); at++) {
+            const Literal differs = same[at] ^ 1;
+            const int which = static_cast<int>(members.size());
+            if (held[at])
+                put(which, resets ? 0 : unrolled.of(0, differs), unrolled.of(1, differs));
+            else  // it depends on the inputs of its bit time, and is asked about in the first one
+                put(which, 0, resets ? 0 : unrolled.of(0, differs));
+        }
+        const std::vector<int> &words = graph.list("words");
+        for (std::size_t at = 0; at + 1 < words.size(); at += 2) word_of[words[at]] = words[at + 1];
+        for (const Guess &guess : given_guesses) add(guess);
+        if (!resets)
+            for (std::size_t at = 0; at < members.size(); at++) arm(static_cast<int>(at));
+    }
+
+    // Proves the outputs once more, and what their proofs depend on, assuming no more than it takes: as long as a state
+    // refutes a group, the likeliest guesses that this state does not meet are assumed, too.
+    bool reduce(double seconds) {
+        const double end = play::now_in_seconds() + seconds;
+        is_reducing = true;
+        for (std::size_t at = 0; at < outputs; at++) need(static_cast<int>(at));
+        for (std::size_t at = 0; at < queue.size(); at++) {
+            const int which = queue[at];
+            is_queued[which] = 0;
+            while (!prove(which)) {
+                if (play::now_in_seconds() > end) return false;
+                int best = -1;
+                for (std::size_t other = 0; other < members.size(); other++) {
+                    const bool is_better = best < 0 || costs[other] < costs[best];
+                    if (!needed[other] && armed[other] && is_better && is_violated(other))
+                        best = static_cast<int>(other);
+                }
+                if (best < 0) return false;
+                need(best);
+            }
+        }
+        return true;
+    }
+
+    // Proves the outputs, then what their proofs depend on, and so on; or all guesses. False if time is up.
+    bool run(bool everything, double seconds) {
+        const double end = play::now_in_seconds() + seconds;
+        for (std::size_t at = 0; at < members.size(); at++)
+            if (everything || at < outputs) need(static_cast<int>(at));
+        for (std::size_t at = 0; at < queue.size(); at++) {
+            if (play::now_in_seconds() > end) return false;
+            const int which = queue[at];
+            is_queued[which] = 0;
+            while (!prove(which)) {}
+        }
+        return true;
+    }
+
+    // All guesses: those given, and weaker ones of those that were given up.
+    const std::vector<Guess> &all() const { return guesses; }
+    bool is_alive(std::size_t at) const { return alive[outputs + at]; }
+    bool output_is_proved(std::size_t at) const { return alive[at]; }
+    const Counts &counts() const { return tally; }
+    const std::vector<Refuting> &refuting() const { return states; }
+
+    // What the proofs of the outputs depend on.
+    std::vector<char> standing() const {
+        std::vector<char> in(members.size(), 0);
+        std::vector<int> waiting;
+        for (std::size_t at = 0; at < outputs; at++) waiting.push_back(static_cast<int>(at));
+        while (!waiting.empty()) {
+            const int one = waiting.back();
+            waiting.pop_back();
+            if (in[one]++) continue;
+            waiting.insert(waiting.end(), core[one].begin(), core[one].end());
+        }
+        std::vector<char> made;
+        for (std::size_t at = outputs; at < alive.size(); at++) made.push_back(in[group[at]] && alive[at]);
+        return made;
+    }
+
+private:
+    static constexpr std::size_t STATES = 2000;
+    static constexpr int DEAD = -1;
+
+    // Adds what is never to hold, in the first bit time and after it, to a group.
+    void put(int which, Literal first, Literal second) {
+        if (static_cast<std::size_t>(which) == members.size()) {
+            members.push_back({});
+            core.push_back({});
+            for (std::vector<char> *flags : {&proved, &needed, &is_queued, &likely}) flags->push_back(0);
+            armed.push_back(0);
+        }
+        members[which].push_back(static_cast<int>(alive.size()));
+        before.push_back(first);
+        after.push_back(second);
+        group.push_back(which);
+        alive.push_back(1);
+        if (first > 1) unrolled.number(first);
+        if (second > 1) unrolled.number(second);
+    }
+
+    // Guesses of one condition about one word are a group: they are assumed, and asked, together; `fine` separates kinds of
+    // literals apart. Returns the group.
+    int add(const Guess &guess) {
+        const std::array<int, 3> of{conditions.family(guess.condition), word_of[guess.target], fine ? kind(guess) : 0};
+        const int which = groups.insert({of, static_cast<int>(members.size())}).first->second;
+        const Literal condition = conditions.literal(guess.condition);
+        guesses.push_back(guess);
+        put(which, resets ? 0 : unrolled.violation(0, condition, guess), unrolled.violation(1, condition, guess));
+        likely[which] |= is_likely(guess);
+        if (costs.size() < members.size()) costs.resize(members.size(), 0);
+        costs[which] = std::max(costs[which], cost(guess));
+        known[{guess.condition, guess.target, guess.literal}] = static_cast<int>(alive.size()) - 1;
+        return which;
+    }
+
+    int kind(const Guess &guess) const {
+        const auto found = kinds.find(guess.literal >> 1);
+        return guess.literal < 2 ? -1 : found == kinds.end() ? DESIGN : found->second;
+    }
+    // The less, the likelier a guess is needed.
+    int cost(const Guess &guess) const {
+        const int all = static_cast<int>(conditions.size());
+        const int at = conditions.only(guess.condition).empty() ? guess.condition : all / 4;
+        return at + (kind(guess) > KNOWN ? 2 * all : 0);
+    }
+
+    bool is_likely(const Guess &guess) const {
+        return guess.condition == 0 || (kind(guess) <= KNOWN && !own.count(guess.target));
+    }
+
+    void arm(int which) {
+        if (armed[which]) unrolled.clause({-armed[which]});
+        armed[which] = unrolled.variable();
+        for (const int at : members[which])
+            if (alive[at] && before[at]) unrolled.clause({-armed[which], -unrolled.number(before[at])});
+    }
+    void need(int which) {
+        needed[which] = 1;
+        if (proved[which] || is_queued[which]) return;
+        is_queued[which] = 1;
+        queue.push_back(which);
+    }
+
+    // Asks for a state after which a guess of the group does not hold. True once there is none.
+    bool prove(int which) {
+        std::vector<int> clause;
+        for (const int at : members[which])
+            if (alive[at] && after[at]) clause.push_back(unrolled.number(after[at]));
+        core[which].clear();
+        proved[which] = 1;
+        if (clause.empty()) return true;
+        const int asked = unrolled.variable();
+        clause.insert(clause.begin(), -asked);
+        unrolled.clause(clause);
+        // first under what is likely to be needed, then under all
+        bool is_refuted = true;
+        for (const bool all : {false, true}) {
+            if (!is_refuted || (all && is_reducing)) break;
+            tally.questions++;
+            for (std::size_t at = 0; at < armed.size(); at++)
+                if (armed[at] && (needed[at] || (!is_reducing && (all || likely[at]))))
+                    unrolled.solver.assume(armed[at]);
+            unrolled.solver.assume(asked);
+            is_refuted = unrolled.solver.solve() == 10;
+        }
+        if (is_refuted && is_reducing)
+            keep_values();
+        else if (is_refuted)
+            give_up(which);
+        else
+            for (std::size_t at = 0; at < members.size(); at++)
+                if (armed[at] && unrolled.solver.failed(armed[at])) core[which].push_back(static_cast<int>(at));
+        unrolled.clause({-asked});
+        for (const int at : core[which]) need(at);
+        return !is_refuted;
+    }
+
+    // Which guesses the state found does not meet.
+    void keep_values() {
+        violated.assign(alive.size(), 0);
+        for (std::size_t at = 0; at < alive.size(); at++)
+            violated[at] = before[at] > 1 ? unrolled.value(before[at]) : before[at];
+    }
+    bool is_violated(std::size_t which) const {
+        return std::any_of(members[which].begin(), members[which].end(), [&](int at) { return violated[at] != 0; });
+    }
+
+    // Gives up the guesses of the group that don't hold after the state found, and those of all needed groups.
+    void give_up(int which) {
+        tally.answered++;
+        std::vector<int> gone;
+        std::vector<char> is_hit(members.size(), 0);
+        for (std::size_t at = 0; at < alive.size(); at++) {
+            const int of = group[at];
+            const bool is_asked = of == which || (at >= outputs && needed[of]);
+            if (!alive[at] || !is_asked || !after[at] || !unrolled.value(after[at])) continue;
+            gone.push_back(static_cast<int>(at));
+            is_hit[of] = 1;
+        }
+        if (states.size() < STATES) states.push_back({state(), gone});
+        for (const int at : gone) alive[at] = 0;
+        tally.gone += static_cast<std::int64_t>(gone.size());
+        proved[which] = 0;
+        std::vector<Guess> weaker;
+        for (const int at : gone)
+            if (static_cast<std::size_t>(at) >= outputs) weaken(guesses[at - outputs], weaker);
+        for (const Guess &guess : weaker) {
+            const std::size_t of = add(guess);
+            is_hit.resize(members.size(), 0);
+            is_hit[of] = 1;
+            proved[of] = 0;
+            if (needed[of]) need(static_cast<int>(of));
+        }
+        for (std::size_t at = 0; at < members.size(); at++)
+            if (is_hit[at] && !resets) arm(static_cast<int>(at));
+        for (std::size_t at = 0; at < members.size(); at++)
+            for (const int other : core[at])
+                if (is_hit[other] && proved[at]) {
+                    proved[at] = 0;
+                    need(static_cast<int>(at));
+                    break;
+                }
+    }
+
+    // The guess under the finer conditions that the state found does not meet after its bit time.
+    void weaken(const Guess &guess, std::vector<Guess> &made) {
+        for (const int finer : conditions.finer(guess.condition)) {
+            const Guess weaker{finer, guess.target, guess.literal};
+            if (!conditions.is_met(finer)) continue;
+            if (!known.insert({{finer, guess.target, guess.literal}, DEAD}).second) continue;
+            const Literal condition = unrolled.of(1, conditions.literal(finer));
+            if (condition == 1 || (condition > 1 && unrolled.is_known(condition) && unrolled.value(condition)))
+                weaken(weaker, made);
+            else if (!is_implied(weaker))
+                made.push_back(weaker);
+        }
+    }
+    // Whether it follows from a guess under a coarser condition.
+    bool is_implied(const Guess &guess) const {
+        for (const int coarser : conditions.coarser(guess.condition)) {
+            const auto found = known.find({coarser, guess.target, guess.literal});
+            if (found != known.end() && found->second != DEAD && alive[found->second]) return true;
+        }
+        return false;
+    }
+
+    std::string state() {
+        std::string made;
+        for (const Register &held : play::registers_of(graph, "registers")) {
+            const Literal literal = unrolled.of(0, 2 * held.signal);
+            made += !unrolled.is_known(literal) ? '?' : unrolled.value(literal) ? '1' : '0';
+        }
+        return made;
+    }
+
+    const Graph &graph;
+    const Conditions &conditions;
+    std::vector<Guess> guesses;
+    bool resets, fine, is_reducing = false;
+    Unrolled unrolled;
+    std::size_t outputs = 0;
+    std::unordered_set<int> own;
+    std::unordered_map<int, int> kinds;
+    std::unordered_map<int, int> word_of;
+    std::map<std::array<int, 3>, int> groups;
+    std::map<std::array<int, 3>, int> known;  // with the place of a guess, if it was made
+    std::vector<Literal> before, after;  // that a guess doesn't hold, in the first and in the second bit time
+    std::vector<std::vector<int>> members, core;
+    std::vector<int> group, armed, queue, costs;
+    std::vector<char> violated;
+    std::vector<char> alive, proved, needed, is_queued, likely;
+    Counts tally;
+    std::vector<Refuting> states;
+};
+
+}  // namespace find
