@@ -132,19 +132,23 @@ bool find(Graph graph, std::uint64_t seed, std::int64_t cycles, double seconds) 
                 static_cast<long long>(counts.answered), static_cast<long long>(counts.gone));
     print(is_done ? "step" : "time is up", begun);
     const std::size_t outputs = graph.list("same").size();
+    bool is_equal = is_done;
     std::printf("outputs");
-    for (std::size_t at = 0; at < outputs; at++) std::printf(" %d", is_done && step.output_is_proved(at));
+    for (std::size_t at = 0; at < outputs; at++) {
+        is_equal = is_equal && step.output_is_proved(at);
+        std::printf(" %d", is_done && step.output_is_proved(at));
+    }
     std::printf("\n");
     const std::vector<Guess> &all = step.all();
-    const std::vector<char> stands = step.standing();
+    const std::vector<char> stands = is_equal ? step.standing() : step.holding();
     std::vector<Guess> proved;
     for (std::size_t at = 0; at < all.size(); at++)
-        if (is_done ? stands[at] : step.is_alive(at)) proved.push_back(all[at]);
+        if (stands[at]) proved.push_back(all[at]);
     // a mapping is easier to read if a register equals one thing under a condition
     std::vector<Guess> kept_alone = first_of_each(proved);
     std::vector<char> standing;
     for (std::vector<Guess> *some : {&kept_alone, &proved}) {
-        if (!is_done) break;
+        if (!is_equal) break;
         Proving again(graph, conditions, *some, false, true);
         const bool is_reduced = again.reduce(seconds);
         print(is_reduced ? "reduced" : "not reduced", begun);

@@ -222,6 +222,14 @@ public:
     const Counts &counts() const { return tally; }
     const std::vector<Refuting> &refuting() const { return states; }
 
+    // What was asked about and is proved, whether the outputs are or not.
+    std::vector<char> holding() const {
+        std::vector<char> made;
+        for (std::size_t at = outputs; at < alive.size(); at++)
+            made.push_back(alive[at] && needed[group[at]] && proved[group[at]]);
+        return made;
+    }
+
     // What the proofs of the outputs depend on.
     std::vector<char> standing() const {
         std::vector<char> in(members.size(), 0);
