@@ -93,7 +93,7 @@ class Finding:
     """A wiring, and how its design is read, played and asked about."""
 
     relation: Relation
-    read: Callable[[Relation, bool], Netlist]
+    read: Callable[[Relation], Netlist]
     play: Callable[[Netlist], int]
     asking: Callable[[Relation], Asking]
     room: pathlib.Path
@@ -104,12 +104,12 @@ class Finding:
 
     def run(self) -> int:
         """Finds a mapping, and returns the status."""
-        plain = self.read(self.relation, True)
+        plain = self.read(self.relation)
         check_parts(plain)
         if given := [name for name in plain.parts if name.startswith(HOLDS)]:
             raise Fault(f"--find takes a wiring without {HOLDS}..: {' '.join(given)}")
         begun = time.monotonic()
-        model = Learning(self.read(with_words(self.relation, plain.circuit), True))
+        model = Learning(self.read(with_words(self.relation, plain.circuit)))
         found = learned(model, self.room, self.seed, self.seconds)
         if found is None:
             return self.play(plain)
