@@ -6,13 +6,14 @@ import re
 from collections.abc import Callable, Iterable, Iterator
 from dataclasses import dataclass, field
 
+from finding.wiring import CLOCK_AGO, EARLIER, EVENT
 from holding.gates import FALSE, TRUE, Gates
 
 PHASES = (
     *("idle", "joining", "stuffed_part", "crc_delimiter", "ack_slot", "ack_delimiter", "end_of_frame", "error_flag"),
     *("passive_flag", "overload_flag", "after_flag", "delimiter", "intermission", "suspend", "bus_off"),
 )
-STUFFED_PART, END_OF_FRAME, AFTER_FLAG, BUS_OFF = 2, 6, 10, 14
+STUFFED_PART, CRC_DELIMITER, END_OF_FRAME, AFTER_FLAG, BUS_OFF = 2, 3, 6, 10, 14
 PLACES = {1: 11, 6: 7, 7: 6, 8: 6, 9: 6, 10: 8, 11: 8, 12: 3, 13: 8, 14: 11}
 # the fields as words.v numbers them, and how many levels of them can have been received while they are next
 FIELDS = {"id": 11, "rtr": 1, "ide": 1, "r0": 1, "dlc": 4, "idx": 18, "rtrx": 1, "r1": 1, "r0x": 1, "dlcx": 4}
@@ -22,7 +23,7 @@ FORMATS = ("extended", "standard")
 ENDS = {"standard": (14, 15, 19), "extended": (14, 32, 33, 35, 39)}  # levels after which a field is complete
 DATA_START = {"standard": 19, "extended": 39}
 LEVELS, CRC_LEVELS = 103, 15
-EVENTS = range(1, 12)
+EVENTS = range(12)
 SLICE = re.compile(r"(.*)\[(\d+)(?::(\d+))?\]$")
 
 
@@ -71,8 +72,11 @@ def named_atoms() -> dict[str, Atom]:
     made |= {"stuff_bit": Atom("gates.heard_run", ">=", 5), "no_stuff_bit": Atom("gates.heard_run", "<", 5)}
     made |= {name: Atom("gates.phase", "==", number) for number, name in enumerate(PHASES)}
     made |= {f"place_{number}": Atom("gates.place", "==", number) for number in range(11)}
-    made |= {f"run_{number}": Atom("gates.heard_run", "==", number) for number in range(1, 6)}
-    made |= {f"event_{number}": Atom("was_event_code", "==", number) for number in EVENTS}
+    made |= {f"run_{number}": Atom("gates.heard_run", "==", number) for number in range(6)}
+    made["run_over_5"] = Atom("gates.heard_run", ">=", 6)
+    for number in EVENTS:
+        made[f"event_{number}"] = Atom(f"{EARLIER}{EVENT}", "==", number)
+        made[f"event_a_clock_ago_{number}"] = Atom(f"{CLOCK_AGO}{EVENT}", "==", number)
     made |= {f"in_{name}": Atom(f"words_field[{number}]") for number, name in enumerate(FIELDS)}
     made |= {f"index_{number}": Atom("words_index", "==", number) for number in range(18)}
     made |= {f"read_{name}": Atom(f"words_read_field[{number}]") for number, name in enumerate(FIELDS)}
@@ -153,6 +157,7 @@ class Conditions:
             yield (one,)
         for number in EVENTS:
             yield (f"event_{number}",)
+            yield (f"event_a_clock_ago_{number}",)
         for role in ROLES:
             for more in ((), ("after_part",)):
                 yield ("frame", *more, *role)
@@ -193,7 +198,8 @@ class Conditions:
 
     def of_fields(self) -> Iterator[Iterable[str]]:
         """The stuffed part by field and place in it, and by the levels in a row."""
-        part = self.base(STUFFED_PART)
+        part, after = self.base(STUFFED_PART), self.base(CRC_DELIMITER)
+        yield from ((*after, f"run_{number}") for number in range(1, 5))
         for role in ROLES:
             for due in ("stuff_bit", "no_stuff_bit"):
                 yield (*part, *role, due)

@@ -6,7 +6,7 @@ import pathlib
 from collections.abc import Iterable
 
 from finding.conditions import CRC_LEVELS, FORMATS, PHASES, SLICE, Conditions
-from finding.wiring import EARLIER, PREFIX
+from finding.wiring import CLOCK_AGO, EARLIER, EVENT, PREFIX
 from holding.asking import SAME
 from holding.gates import FALSE
 from holding.netlist import MUTATION, Netlist
@@ -39,7 +39,7 @@ class Learning(Model):
         self.supports = self.found_supports()
         self.flags = self.named_flags()
         self.conditions = Conditions(self.gates, self.any_word, self.flags)
-        self.transmitted = self.guesses_of_transmitter()
+        self.transmitted = [*self.guesses_of_transmitter(), *self.guesses_of_circuit()]
         self.conditions.add_received()
         self.conditions.add_latest()
         self.conditions.add_still_to_send()
@@ -84,18 +84,17 @@ class Learning(Model):
                 made[signal] = self.side(signal) if signal in held else INPUT
         return made
 
-    def words_of_design(self) -> dict[str, list[int]]:
-        """The design's named registers by word, without those that are parts of others."""
+    def words_of(self, side: int) -> dict[str, list[int]]:
+        """The named registers of a side by word, without those that are parts of others."""
         made: dict[str, list[int]] = {}
         for literal in self.registers:
-            name, _ = self.names.get(literal >> 1, ("", 0))
-            if name.startswith("dut."):
-                made.setdefault(name, []).append(literal)
+            if self.side(literal >> 1) == side:
+                made.setdefault(self.names[literal >> 1][0], []).append(literal)
         return made
 
     def named_flags(self) -> list[str]:
         """The design's registers of one bit."""
-        return [name for name in self.words_of_design() if len(self.words[name]) == 1 and not SLICE.search(name)]
+        return [name for name in self.words_of(DESIGN) if len(self.words[name]) == 1 and not SLICE.search(name)]
 
     def guesses_of_transmitter(self) -> list[tuple[int, int, int]]:
         """A transmitter hears its own frame, and goes on only while its CRC sequence is heard."""
@@ -106,9 +105,18 @@ class Learning(Model):
             made.append((at, literal >> 1, value ^ (literal & 1)))
         return made
 
+    def guesses_of_circuit(self) -> list[tuple[int, int, int]]:
+        """A frame has up to five equal levels in a row, and no stuff bit is due after the stuffed part."""
+        made = []
+        for atoms, absent in ((["frame"], ("run_0", "run_over_5")), (["frame", "after_part"], ("stuff_bit",))):
+            at = self.conditions.add(atoms, "sent", [FALSE])
+            literals = [self.conditions.literal(name) for name in absent]
+            made += [(at, literal >> 1, literal & 1) for literal in literals if literal > 1]
+        return made
+
     def pairs_of_words(self) -> dict[int, tuple[int, int]]:
         """Whether bits of two words of the length of a CRC sequence differ: by signal, both registers."""
-        words = [word for word in self.words_of_design().values() if len(word) == CRC_LEVELS]
+        words = [word for word in self.words_of(DESIGN).values() if len(word) == CRC_LEVELS]
         made: dict[int, tuple[int, int]] = {}
         for number, one in enumerate(words):
             for other in words[:number]:
@@ -178,7 +186,7 @@ class Learning(Model):
 
     def is_late(self, signal: int) -> bool:
         """Whether it is what the circuit had a bit time ago."""
-        return self.names.get(signal, ("", 0))[0].startswith(EARLIER)
+        return self.names.get(signal, ("", 0))[0].startswith((EARLIER, CLOCK_AGO))
 
     def of_side(self, side: int) -> list[int]:
         """The named registers of a side, without what the circuit had a bit time ago."""
@@ -192,7 +200,8 @@ class Learning(Model):
         self.word_numbers = sorted({self.group(it) for it in targets})
         words = {name: number for number, name in enumerate(self.word_numbers)}
         families = {name: number for number, name in enumerate(dict.fromkeys(it.family for it in conditions))}
-        ranges = {name: word for name, word in self.words_of_design().items() if len(word) in NARROW}
+        ranges = {**self.words_of(DESIGN), **self.words_of(WIRING)}
+        ranges = {name: word for name, word in ranges.items() if len(word) in NARROW and name in words}
         others = [*self.pairs, *(signal for _, signal, _ in self.transmitted)]
         made = self.lists([])
         made |= {
@@ -237,13 +246,14 @@ class Learning(Model):
         return len(self.words[self.names[signal][0]])
 
     def key(self) -> list[int]:
-        """What distinguishes kinds of states: phase, place, role, format."""
+        """What distinguishes kinds of states: phase, place, role, format, event."""
         gates, words = self.gates, self.words
         (in_part,) = words[f"{PREFIX}in_part"]
         place = [*words["gates.place"], *[FALSE] * 3]
         at = [gates.choose(in_part, a, b) for a, b in zip(words["gates.heard_count"], place)]
         extended = gates.both(in_part, words["gates.heard"][13])
-        return [*words["gates.phase"], *at, *words["gates.sender"], extended, *words["gates.first"]]
+        event = [*words[f"{EARLIER}{EVENT}"], gates.all(*(it ^ 1 for it in words[f"{CLOCK_AGO}{EVENT}"]))]
+        return [*words["gates.phase"], *at, *words["gates.sender"], extended, *words["gates.first"], *event]
 
     def write_to_learn(self, path: pathlib.Path) -> None:
         """Writes the file that the learner reads."""

@@ -8,7 +8,7 @@ from dataclasses import dataclass
 from typing import Any
 
 from finding.learning import Learning
-from finding.wiring import EARLIER, PREFIX, earlier, earlier_words, instance
+from finding.wiring import CLOCK_AGO, EARLIER, PREFIX, clock_ago, earlier, earlier_words, instance
 from holding.asking import HOLDS, SAME
 from holding.faults import Fault
 from holding.relation import Relation, blanked, read_relation
@@ -359,6 +359,8 @@ class Writing:
         used = {word for line in [*lines, *self.lines] for word in re.findall(rf"\b{EARLIER}(\w+)", line)}
         widths = {name: width for name, width in earlier_words(self.model.netlist.circuit).items() if name in used}
         body = [f"    // {note}", *instance("\n".join([*self.lines, *lines])), *earlier(widths)]
+        if any(CLOCK_AGO in line for line in [*self.lines, *lines]):
+            body += clock_ago()
         if any("(at = " in line for line in self.lines):
             body.append("    genvar at;")
         return with_parts(relation, names, [*body, *self.lines, *lines])

@@ -2,10 +2,10 @@
 // and called by equivalence/hold --find, with a graph that Python wrote, and prints what Python reads: a word and
 // numbers on a line.
 //
-//     find GRAPH SEED CYCLES SECONDS
+//     find GRAPH SEED CYCLES SECONDS GOES_ON
 //
-// CYCLES is for how many clock cycles of 512 lanes it plays; SECONDS the time limit of the proof. The status is 4 if
-// outputs differ.
+// CYCLES is for how many clock cycles of 512 lanes it plays; SECONDS the time limit of the proof; GOES_ON is 1 if guesses
+// are to be proved even if an output is refuted. The status is 4 if outputs differ.
 
 #include <cstdio>
 #include <cstdlib>
@@ -95,7 +95,7 @@ std::vector<Guess> first_of_each(const std::vector<Guess> &guesses) {
 }
 
 // False if outputs differ.
-bool find(Graph graph, std::uint64_t seed, std::int64_t cycles, double seconds) {
+bool find(Graph graph, std::uint64_t seed, std::int64_t cycles, double seconds, bool goes_on) {
     const double begun = play::now_in_seconds();
     bool is_different = false;
     Samples samples = sampled(graph, seed, cycles, is_different);
@@ -105,6 +105,7 @@ bool find(Graph graph, std::uint64_t seed, std::int64_t cycles, double seconds) 
     Conditions conditions(graph);
     std::vector<Guess> guesses, dead;
     for (int round = 0; round < ROUNDS; round++) {
+        samples.sort();
         Guessing guessing(graph, conditions, samples);
         guesses = guessing.all(dead);
         const std::vector<Guess> ranges = guessing.ranges(graph);
@@ -119,14 +120,14 @@ bool find(Graph graph, std::uint64_t seed, std::int64_t cycles, double seconds) 
     std::printf("guesses %zu\n", guesses.size());
     // after a reset
     Proving after_reset(graph, conditions, guesses, true);
-    after_reset.run(true, seconds);
+    after_reset.run(true, true, seconds);
     std::vector<Guess> kept;
     for (std::size_t at = 0; at < after_reset.all().size(); at++)
         if (after_reset.is_alive(at)) kept.push_back(after_reset.all()[at]);
     std::fprintf(stderr, "          %zu hold after a reset\n", kept.size());
     print("reset", begun);
     Proving step(graph, conditions, kept, false);
-    const bool is_done = step.run(false, seconds);
+    const bool is_done = step.run(false, goes_on, seconds);
     const Proving::Counts &counts = step.counts();
     std::printf("asked %lld %lld %lld\n", static_cast<long long>(counts.questions),
                 static_cast<long long>(counts.answered), static_cast<long long>(counts.gone));
@@ -160,7 +161,7 @@ bool find(Graph graph, std::uint64_t seed, std::int64_t cycles, double seconds) 
     for (std::size_t at = 0; at < proved.size(); at++)
         print_guess(!standing.empty() && standing[at] ? "needed" : "left", proved[at]);
     for (const Refuting &state : step.refuting()) {
-        std::printf("state %s", state.registers.c_str());
+        std::printf("state %s %d", state.registers.c_str(), state.earlier);
         for (const int at : state.gone) std::printf(" %d", at);
         std::printf("\n");
     }
@@ -174,14 +175,14 @@ bool find(Graph graph, std::uint64_t seed, std::int64_t cycles, double seconds) 
 }  // namespace find
 
 int main(int count, char **words) {
-    if (count != 5) {
-        std::fprintf(stderr, "usage: find GRAPH SEED CYCLES SECONDS\n");
+    if (count != 6) {
+        std::fprintf(stderr, "usage: find GRAPH SEED CYCLES SECONDS GOES_ON\n");
         return 2;
     }
     try {
         const play::Graph graph(words[1]);
         const std::uint64_t seed = std::strtoull(words[2], nullptr, 10);
-        if (!find::find(graph, seed, std::atoll(words[3]), std::atof(words[4]))) return 4;
+        if (!find::find(graph, seed, std::atoll(words[3]), std::atof(words[4]), words[5][0] == '1')) return 4;
     } catch (const std::exception &fault) {
         std::fprintf(stderr, "%s\n", fault.what());
         return 3;

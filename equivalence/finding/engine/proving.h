@@ -130,10 +130,12 @@ private:
     int variables = 1;
 };
 
-// A state before a bit time after which some guesses don't hold, as the values of registers: '?' is any.
+// A state before a bit time after which some guesses don't hold, as the values of registers: '?' is any. `earlier` is
+// the number of a state by which a guess was given up that this one doesn't meet; -1 if it meets all that there were.
 struct Refuting {
     std::string registers;
     std::vector<int> gone;
+    int earlier;
 };
 
 class Proving {
@@ -201,13 +203,15 @@ public:
         return true;
     }
 
-    // Proves the outputs, then what their proofs depend on, and so on; or all guesses. False if time is up.
-    bool run(bool everything, double seconds) {
+    // Proves the outputs, then what their proofs depend on, and so on; or all guesses. Without `goes_on` it ends when an
+    // output is refuted. False if time is up.
+    bool run(bool everything, bool goes_on, double seconds) {
         const double end = play::now_in_seconds() + seconds;
         for (std::size_t at = 0; at < members.size(); at++)
             if (everything || at < outputs) need(static_cast<int>(at));
         for (std::size_t at = 0; at < queue.size(); at++) {
             if (play::now_in_seconds() > end) return false;
+            if (is_lost && !goes_on) return true;
             const int which = queue[at];
             is_queued[which] = 0;
             while (!prove(which)) {}
@@ -247,7 +251,6 @@ public:
     }
 
 private:
-    static constexpr std::size_t STATES = 2000;
     static constexpr int DEAD = -1;
 
     // Adds what is never to hold, in the first bit time and after it, to a group.
@@ -263,6 +266,7 @@ private:
         after.push_back(second);
         group.push_back(which);
         alive.push_back(1);
+        given_up_by.push_back(-1);
         if (first > 1) unrolled.number(first);
         if (second > 1) unrolled.number(second);
     }
@@ -366,8 +370,12 @@ private:
             gone.push_back(static_cast<int>(at));
             is_hit[of] = 1;
         }
-        if (states.size() < STATES) states.push_back({state(), gone});
-        for (const int at : gone) alive[at] = 0;
+        states.push_back({state(), gone, earlier()});
+        for (const int at : gone) {
+            alive[at] = 0;
+            given_up_by[at] = static_cast<int>(states.size()) - 1;
+            is_lost |= static_cast<std::size_t>(at) < outputs;
+        }
         tally.gone += static_cast<std::int64_t>(gone.size());
         proved[which] = 0;
         std::vector<Guess> weaker;
@@ -413,6 +421,16 @@ private:
         return false;
     }
 
+    // The first state by which a guess was given up that the state found does not meet.
+    int earlier() {
+        int made = -1;
+        for (std::size_t at = outputs; at < alive.size(); at++)
+            if (given_up_by[at] >= 0 && (made < 0 || given_up_by[at] < made) && before[at] > 1 &&
+                unrolled.value(before[at]))
+                made = given_up_by[at];
+        return made;
+    }
+
     std::string state() {
         std::string made;
         for (const Register &held : play::registers_of(graph, "registers")) {
@@ -425,7 +443,7 @@ private:
     const Graph &graph;
     const Conditions &conditions;
     std::vector<Guess> guesses;
-    bool resets, fine, is_reducing = false;
+    bool resets, fine, is_reducing = false, is_lost = false;
     Unrolled unrolled;
     std::size_t outputs = 0;
     std::unordered_set<int> own;
@@ -435,7 +453,7 @@ private:
     std::map<std::array<int, 3>, int> known;  // with the place of a guess, if it was made
     std::vector<Literal> before, after;  // that a guess doesn't hold, in the first and in the second bit time
     std::vector<std::vector<int>> members, core;
-    std::vector<int> group, armed, queue, costs;
+    std::vector<int> group, armed, queue, costs, given_up_by;
     std::vector<char> violated;
     std::vector<char> alive, proved, needed, is_queued, likely;
     Counts tally;
