@@ -24,6 +24,7 @@ ENDS = {"standard": (14, 15, 19), "extended": (14, 32, 33, 35, 39)}  # levels af
 DATA_START = {"standard": 19, "extended": 39}
 LEVELS, CRC_LEVELS = 103, 15
 EVENTS = range(12)
+INDEX = {"in": "index", "read": "read_index"}
 SLICE = re.compile(r"(.*)\[(\d+)(?::(\d+))?\]$")
 
 
@@ -90,6 +91,9 @@ def named_atoms() -> dict[str, Atom]:
         made[f"bytes_over_{number}"] = Atom("words_length", ">=", number + 1)
         made[f"bytes_to_{number}"] = Atom("words_length", "<", number + 1)
         made[f"own_bytes_over_{number}"] = Atom("words_own_length", ">=", number + 1)
+    for number in range(9):
+        made[f"bytes_{number}"] = Atom("words_length", "==", number)
+        made[f"own_bytes_{number}"] = Atom("words_own_length", "==", number)
     for number in range(1, LEVELS + 1):
         made[f"past_{number}"] = Atom("words_count", ">=", number)
         made[f"before_crc_{number}"] = Atom("words_data_end", ">=", number)
@@ -168,6 +172,9 @@ class Conditions:
                     yield ("frame", *role, f"past_{level}", form)
         for form in FORMATS:
             yield ("frame", "transmitter", f"own_{form}")
+            for number in range(9):
+                yield ("frame", form, f"past_{DATA_START[form]}", f"bytes_{number}")
+                yield ("frame", "transmitter", f"own_{form}", f"own_bytes_{number}")
             for number in range(8):
                 yield ("frame", "transmitter", f"own_bytes_over_{number}")
                 yield ("frame", "transmitter", f"own_{form}", f"own_bytes_over_{number}")
@@ -177,6 +184,7 @@ class Conditions:
             yield from self.of_phase(number)
         yield from self.of_fields()
         yield from self.of_reading()
+        yield from self.of_own_formats()
 
     def base(self, number: int) -> tuple[str, ...]:
         """The atoms that hold in a phase."""
@@ -215,6 +223,15 @@ class Conditions:
                 for number in range(8 if name == "data" else 0):
                     yield (*inside, f"bit_{number}")
                     yield (*inside, f"byte_{number}")
+
+    def of_own_formats(self) -> Iterator[Iterable[str]]:
+        """At a transmitter, by field and place in it, and by what the rest of the frame will be."""
+        for of in ("in", "read"):
+            part = (*self.base(STUFFED_PART), "transmitter")
+            for form in FORMATS:
+                for name in ("id", "rtr", "ide"):
+                    for number in range(FIELDS[name]):
+                        yield (*part, f"{of}_{name}", f"{INDEX[of]}_{number}", f"own_{form}")
 
     def of_reading(self) -> Iterator[Iterable[str]]:
         """At a transmitter, by what it reads if it works one bit time ahead."""
