@@ -24,7 +24,7 @@ ENDS = {"standard": (14, 15, 19), "extended": (14, 32, 33, 35, 39)}  # levels af
 DATA_START = {"standard": 19, "extended": 39}
 LEVELS, CRC_LEVELS = 103, 15
 EVENTS = range(12)
-INDEX = {"in": "index", "read": "read_index"}
+INDEX = {"in": "index", "sent": "sent_index", "read": "read_index"}
 SLICE = re.compile(r"(.*)\[(\d+)(?::(\d+))?\]$")
 
 
@@ -80,13 +80,15 @@ def named_atoms() -> dict[str, Atom]:
         made[f"event_a_clock_ago_{number}"] = Atom(f"{CLOCK_AGO}{EVENT}", "==", number)
     made |= {f"in_{name}": Atom(f"words_field[{number}]") for number, name in enumerate(FIELDS)}
     made |= {f"index_{number}": Atom("words_index", "==", number) for number in range(18)}
-    made |= {f"read_{name}": Atom(f"words_read_field[{number}]") for number, name in enumerate(FIELDS)}
-    made |= {f"read_index_{number}": Atom("words_read_index", "==", number) for number in range(18)}
+    for of in ("sent", "read"):
+        made |= {f"{of}_{name}": Atom(f"words_{of}_field[{number}]") for number, name in enumerate(FIELDS)}
+        made |= {f"{of}_index_{number}": Atom(f"words_{of}_index", "==", number) for number in range(18)}
+        made |= {f"{of}_bit_{number}": Atom(f"words_{of}_index[2:0]", "==", number) for number in range(8)}
+        made |= {f"{of}_byte_{number}": Atom(f"words_{of}_index[6:3]", "==", number) for number in range(8)}
     made["before_crc"] = Atom(f"words_field[{list(FIELDS).index('crc')}]", is_negated=True)
     for number in range(8):
-        made[f"read_bit_{number}"] = Atom("words_read_index[2:0]", "==", number)
-        made[f"read_byte_{number}"] = Atom("words_read_index[6:3]", "==", number)
         made[f"bit_{number}"] = Atom("words_index[2:0]", "==", number)
+        made[f"bit_over_{number}"] = Atom("words_index[2:0]", ">=", number + 1)
         made[f"byte_{number}"] = Atom("words_index[6:3]", "==", number)
         made[f"bytes_over_{number}"] = Atom("words_length", ">=", number + 1)
         made[f"bytes_to_{number}"] = Atom("words_length", "<", number + 1)
@@ -97,6 +99,9 @@ def named_atoms() -> dict[str, Atom]:
     for number in range(1, LEVELS + 1):
         made[f"past_{number}"] = Atom("words_count", ">=", number)
         made[f"before_crc_{number}"] = Atom("words_data_end", ">=", number)
+    for number in range(1, LEVELS + 1):
+        made[f"frame_left_{number}"] = Atom("words_frame_left", ">=", number)
+        made[f"later_left_{number}"] = Atom("words_later_left", ">=", number)
     for number in range(1, 65):
         made[f"data_left_{number}"] = Atom("words_data_left", ">=", number)
         if number < 30:
@@ -109,7 +114,7 @@ def named_atoms() -> dict[str, Atom]:
 IMPLIED = {name: {"on_bus"} for name in PHASES[:-1]}
 IMPLIED |= {name: {"on_bus", "frame", "after_part"} for name in PHASES[3:7]}
 IMPLIED |= {"stuffed_part": {"on_bus", "frame"}, "after_part": {"frame"}}
-IMPLIED |= {f"{of}_{name}": {"on_bus", "frame", "stuffed_part"} for name in FIELDS for of in ("in", "read")}
+IMPLIED |= {f"{of}_{name}": {"on_bus", "frame", "stuffed_part"} for name in FIELDS for of in INDEX}
 
 
 @dataclass
@@ -226,23 +231,24 @@ class Conditions:
 
     def of_own_formats(self) -> Iterator[Iterable[str]]:
         """At a transmitter, by field and place in it, and by what the rest of the frame will be."""
-        for of in ("in", "read"):
-            part = (*self.base(STUFFED_PART), "transmitter")
+        part = (*self.base(STUFFED_PART), "transmitter")
+        for of in INDEX:
             for form in FORMATS:
                 for name in ("id", "rtr", "ide"):
                     for number in range(FIELDS[name]):
                         yield (*part, f"{of}_{name}", f"{INDEX[of]}_{number}", f"own_{form}")
 
     def of_reading(self) -> Iterator[Iterable[str]]:
-        """At a transmitter, by what it reads if it works one bit time ahead."""
+        """At a transmitter, by what comes after the present level, or after the next one."""
         part = (*self.base(STUFFED_PART), "transmitter")
-        for name, longest in FIELDS.items():
-            yield (*part, f"read_{name}")
-            for number in range(longest):
-                yield (*part, f"read_{name}", f"read_index_{number}")
-            for number in range(8 if name == "data" else 0):
-                yield (*part, f"read_{name}", f"read_bit_{number}")
-                yield (*part, f"read_{name}", f"read_byte_{number}")
+        for of in ("sent", "read"):
+            for name, longest in FIELDS.items():
+                yield (*part, f"{of}_{name}")
+                for number in range(longest):
+                    yield (*part, f"{of}_{name}", f"{of}_index_{number}")
+                for number in range(8 if name == "data" else 0):
+                    yield (*part, f"{of}_{name}", f"{of}_bit_{number}")
+                    yield (*part, f"{of}_{name}", f"{of}_byte_{number}")
 
     def of_flags(self, flags: Iterable[str]) -> Iterator[Iterable[str]]:
         """A flag of the design, in each phase."""
@@ -278,10 +284,14 @@ class Conditions:
         part = (*self.base(STUFFED_PART), "before_crc")
         for number, level in enumerate(self.word("words_latest")):
             self.add([*part, f"past_{number + 1}"], "level ago", [level])
+        for byte in range(8):
+            for bit, level in enumerate(self.word("words_latest")[:7]):
+                atoms = [*self.base(STUFFED_PART), "in_data", f"byte_{byte}", f"bit_over_{bit}"]
+                self.add(atoms, f"byte {byte} so far", [level])
 
     def add_still_to_send(self) -> None:
         """For each number of levels left to send: a register may equal one of these."""
-        for name in ("identifier", "data"):
+        for name in ("identifier", "data", "frame", "later"):
             for number, level in enumerate(self.word(f"words_{name}_to_send")):
                 self.add(["frame", "transmitter", f"{name}_left_{number + 1}"], f"{name} to send", [level])
 

@@ -18,7 +18,7 @@ REGISTER, WIDE, KNOWN, GATE, LATE, OF_WIRING, OF_DESIGN = range(7)
 ANYWHERE, IN_FRAME, AT_TRANSMITTER = range(3)  # where a word of the circuit means something
 WIDE_WORDS = ("gates.heard", "gates.own", "gates.heard_check")
 OF_FRAME = ("heard", "heard_count", "heard_last", "heard_run", "heard_check")
-OF_TRANSMITTER = tuple(PREFIX + it for it in ("own", "identifier_", "data_to", "data_left", "read", "next_drive"))
+OF_TRANSMITTER = ("own", "identifier_", "data_to", "data_left", "frame_", "present_drive", "sent", "later_", "read", "next_drive")
 ANY_TIME = ("minus_", "in_", "after_part", "field")
 WIDE_BITS = 16
 RECORD_BITS = 128  # a word with more is a record, whose bits have nothing in common
@@ -128,7 +128,7 @@ class Learning(Model):
         made: dict[int, int] = {}
         for name, word in self.words.items():
             if name.startswith(PREFIX) and not name[len(PREFIX) :].startswith(ANY_TIME):
-                domain = AT_TRANSMITTER if name.startswith(OF_TRANSMITTER) else IN_FRAME
+                domain = AT_TRANSMITTER if name[len(PREFIX) :].startswith(OF_TRANSMITTER) else IN_FRAME
             elif name == "gates.own" or name.removeprefix("gates.") in OF_FRAME:
                 domain = AT_TRANSMITTER if name == "gates.own" else IN_FRAME
             else:

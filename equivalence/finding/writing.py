@@ -16,7 +16,7 @@ from holding.relation import Relation, blanked, read_relation
 BIT = re.compile(r"(.*)\[(\d+)\]$", re.S)
 NAME = re.compile(r"[^A-Za-z0-9]+")
 LEVEL = re.compile(r"(?:past|left)_(\d+)")
-LOOPED = ("level ", "identifier to", "data to")
+LOOPED = ("level ", "identifier to", "data to", "frame to", "later to")
 LINE = 118
 LOOP = 4  # places from which on a loop is shorter
 
