@@ -7,8 +7,9 @@ from collections.abc import Iterable
 
 from finding.conditions import CRC_LEVELS, FORMATS, PHASES, SLICE, Conditions
 from finding.wiring import CLOCK_AGO, EARLIER, EVENT, PREFIX
-from holding.asking import SAME
-from holding.gates import FALSE
+from holding.asking import HOLDS, SAME
+from holding.faults import Fault
+from holding.gates import FALSE, TRUE
 from holding.netlist import MUTATION, Netlist
 from playing.model import Model
 
@@ -39,7 +40,8 @@ class Learning(Model):
         self.supports = self.found_supports()
         self.flags = self.named_flags()
         self.conditions = Conditions(self.gates, self.any_word, self.flags)
-        self.transmitted = [*self.guesses_of_transmitter(), *self.guesses_of_circuit()]
+        self.named = [*self.guesses_of_transmitter(), *self.guesses_of_circuit()]
+        self.given = self.given_guesses()
         self.conditions.add_received()
         self.conditions.add_latest()
         self.conditions.add_still_to_send()
@@ -113,6 +115,19 @@ class Learning(Model):
             literals = [self.conditions.literal(name) for name in absent]
             made += [(at, literal >> 1, literal & 1) for literal in literals if literal > 1]
         return made
+
+    def given_guesses(self) -> list[tuple[int, int, int]]:
+        """The parts holds_.. of the wiring."""
+        literals = {name: literal for name, literal in self.parts.items() if name.startswith(HOLDS) and literal > 1}
+        if of_inputs := [name for name, it in literals.items() if self.supports[it >> 1] & INPUT]:
+            raise Fault(f"{of_inputs[0]} depends on an input of its bit time, so it is no guess about registers")
+        at = self.conditions.add([], "given", [TRUE])
+        self.given_condition = at
+        return [(at, literal >> 1, literal & 1 ^ 1) for literal in literals.values()]
+
+    def given_name(self, signal: int) -> str:
+        """The part of the wiring with this signal."""
+        return next(name for name, it in self.parts.items() if name.startswith(HOLDS) and it >> 1 == signal)
 
     def pairs_of_words(self) -> dict[int, tuple[int, int]]:
         """Whether bits of two words of the length of a CRC sequence differ: by signal, both registers."""
@@ -202,7 +217,8 @@ class Learning(Model):
         families = {name: number for number, name in enumerate(dict.fromkeys(it.family for it in conditions))}
         ranges = {**self.words_of(DESIGN), **self.words_of(WIRING)}
         ranges = {name: word for name, word in ranges.items() if len(word) in NARROW and name in words}
-        others = [*self.pairs, *(signal for _, signal, _ in self.transmitted)]
+        named = [*self.named, *self.given]
+        others = [*self.pairs, *(signal for _, signal, _ in self.named)]
         made = self.lists([])
         made |= {
             "key": self.key(),
@@ -216,11 +232,16 @@ class Learning(Model):
             "wide": [it for it in self.of_side(DESIGN) if WIDE_BITS < self.width(it) <= RECORD_BITS],
             "own": self.of_side(CIRCUIT),
             "words": [number for it in targets for number in (it, words[self.group(it)])]
-            + [number for it in others for number in (it, len(words))],
+            + [number for it in others for number in (it, len(words))]
+            + [number for at, (_, it, _) in enumerate(self.given) for number in (it, len(words) + 1 + at)],
             "partners": [number for signal, kind in self.partners().items() for number in (2 * signal, kind)],
             "domains": [number for pair in self.domains().items() for number in pair],
             "condition_domains": [self.domain_of_condition(at) for at in range(len(conditions))],
-            "named_guesses": [number for guess in self.transmitted for number in guess],
+            "named_guesses": [number for guess in named for number in guess],
+            "asked_conditions": [self.given_condition],
+            "count": self.words["gates.heard_count"],
+            "place": self.words["gates.place"],
+            "design": self.of_side(DESIGN),
             "held": [int(not self.supports[it >> 1] & INPUT) for it in self.literals_of(SAME)],
             "gate_conditions": [at for at, it in enumerate(conditions) if len(it.atoms) <= 2 and it.atoms <= ROLES],
             "design_gates": [it for it in sorted(self.gates.gates) if it < self.main and self.supports[it] == DESIGN],

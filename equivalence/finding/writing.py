@@ -196,6 +196,8 @@ class Writing:
         found: dict[str, dict[int, list[Guess]]] = {}
         loops: dict[tuple[str, str, int, int], dict[int, Guess]] = {}
         for guess in guesses:
+            if guess.condition == self.model.given_condition:
+                continue
             subject = self.subject(guess)
             if shape := self.shape(guess):
                 loops.setdefault((subject, self.model.conditions.all[guess.condition].family, *shape[:2]), {})[
@@ -212,7 +214,9 @@ class Writing:
         return sorted(made.items())
 
     def said(self, guess: Guess) -> str:
-        """A guess in Verilog."""
+        """A guess in Verilog, or the name of the part that it is."""
+        if guess.condition == self.model.given_condition:
+            return self.model.given_name(guess.target)
         return self.implied(guess.condition, self.terms_of(self.subject(guess), [guess]))
 
     def implied(self, condition: int, terms: Sequence[str]) -> str:
@@ -355,6 +359,8 @@ class Writing:
         names, lines = [], []
         for name, terms in [*self.parts(guesses), *((name, [name]) for name in held)]:
             names.append(HOLDS + NAME.sub("_", name.removeprefix("dut.")).strip("_"))
+            while re.search(rf"\b{names[-1]}\b", relation.text):
+                names[-1] += "_found"
             lines += statement(names[-1], terms)
         used = {word for line in [*lines, *self.lines] for word in re.findall(rf"\b{EARLIER}(\w+)", line)}
         widths = {name: width for name, width in earlier_words(self.model.netlist.circuit).items() if name in used}
@@ -363,7 +369,9 @@ class Writing:
             body += clock_ago()
         if any("(at = " in line for line in self.lines):
             body.append("    genvar at;")
-        return with_parts(relation, names, [*body, *self.lines, *lines])
+        kept = {it.target for it in guesses if it.condition == self.model.given_condition}
+        lost = [self.model.given_name(signal) for _, signal, _ in self.model.given if signal not in kept]
+        return with_parts(relation, names, [*body, *self.lines, *lines], lost)
 
 
 def negated(test: str) -> str:
@@ -396,8 +404,10 @@ def broken(line: str) -> list[str]:
     return [*made, line]
 
 
-def with_parts(relation: Relation, names: Sequence[str], body: Sequence[str]) -> str:
-    """The wiring with these outputs and these lines."""
+def with_parts(relation: Relation, names: Sequence[str], body: Sequence[str], lost: Sequence[str]) -> str:
+    """The wiring with these outputs and these lines, and without some outputs."""
+    for name in lost:
+        relation = without_part(relation, name)
     code = blanked(relation.text)
     close = code.rindex(")", 0, relation.head_end)
     if not re.search(r"\binput\b", code[: relation.head_end]):
@@ -408,9 +418,13 @@ def with_parts(relation: Relation, names: Sequence[str], body: Sequence[str]) ->
     return "\n".join([head + relation.text[close:end].rstrip(), "", *body, "endmodule", ""])
 
 
-def checked(text: str, path: str) -> Relation:
-    """The register mapping in this text."""
-    return read_relation(text, path)
+def without_part(relation: Relation, name: str) -> Relation:
+    """The wiring with an output that is a wire instead."""
+    head, rest = relation.text[: relation.head_end], relation.text[relation.head_end :]
+    gone = re.sub(rf",\s*(output\s+)?{name}\b|\boutput\s+{name}\s*(?=\))", "", head)
+    if gone == head:  # the first of its list
+        gone = re.sub(rf"\b{name}\s*,\s*", "", head)
+    return read_relation(f"{gone}\n    wire {name};{rest}", relation.path)
 
 
 def held_outputs(model: Learning, held: Sequence[int]) -> list[str]:

@@ -18,7 +18,7 @@
 
 namespace find {
 
-constexpr std::size_t MOST = 128;  // states of a kind
+constexpr std::size_t MOST = 48;  // states of a kind
 constexpr int EVERY = 4;           // clock cycles between samples
 constexpr int ROUNDS = 3;
 
@@ -81,6 +81,58 @@ std::vector<Guess> refuted(const Graph &graph, const Conditions &conditions, con
     return gone;
 }
 
+// In how many bit times of a play the circuit has the phase, place and role of a state; and in how many of these the
+// design's registers are as in it, too.
+class Reaching {
+public:
+    Reaching(const Graph &graph, const std::string &state) {
+        std::vector<char> value(graph.gates.size(), '?');
+        std::size_t at = 0;
+        for (const Register &held : play::registers_of(graph, "registers")) value[held.signal] = state[at++];
+        int phase = 0;
+        const Literals &phases = graph.list("phase");
+        for (std::size_t place = 0; place < phases.size(); place++)
+            phase |= (value[phases[place] >> 1] == '1') << place;
+        for (const char *name : {"phase", "sender", phase == STUFFED_PART ? "count" : "place"})
+            for (const Literal literal : graph.list(name)) take(circuit, literal, value);
+        for (const int signal : graph.list("design")) take(design, 2 * signal, value);
+    }
+
+    void count(const Program &program, const Lanes &which) {
+        Lanes left = which;
+        for (const Literal literal : circuit) left &= program.value(literal);
+        there += play::count(left);
+        for (const Literal literal : design) left &= program.value(literal);
+        same += play::count(left);
+    }
+    void print(int state) const {
+        std::printf("chain %d %lld %lld\n", state, static_cast<long long>(there), static_cast<long long>(same));
+    }
+
+private:
+    static constexpr int STUFFED_PART = 2;
+
+    static void take(Literals &to, Literal literal, const std::vector<char> &value) {
+        const char held = value[literal >> 1];
+        if (held != '?') to.push_back(literal ^ (held == '0'));
+    }
+
+    Literals circuit, design;  // that are 1 in the state
+    std::int64_t there = 0, same = 0;
+};
+
+void print_chain(const Graph &graph, const Proving &proving, std::uint64_t seed, std::int64_t cycles) {
+    const std::vector<int> chain = proving.chain();
+    std::vector<Reaching> reaching;
+    for (const int at : chain) reaching.emplace_back(graph, proving.refuting()[at].registers);
+    play::Playing playing(graph, {seed, 0});
+    playing.watch([&](const Program &program, const Lanes &which, std::int64_t) {
+        for (Reaching &one : reaching) one.count(program, which);
+    });
+    playing.run(1e9, cycles);
+    for (std::size_t at = 0; at < chain.size(); at++) reaching[at].print(chain[at]);
+}
+
 void print_guess(const char *word, const Guess &guess) {
     std::printf("%s %d %d %d\n", word, guess.condition, guess.target, guess.literal);
 }
@@ -103,13 +155,13 @@ bool find(Graph graph, std::uint64_t seed, std::int64_t cycles, double seconds, 
     std::printf("samples %zu %zu\n", samples.size(), samples.number_of_kinds());
     print("played", begun);
     Conditions conditions(graph);
-    std::vector<Guess> guesses, dead;
+    std::vector<Guess> guesses, dead, known;
     for (int round = 0; round < ROUNDS; round++) {
         samples.sort();
         Guessing guessing(graph, conditions, samples);
-        guesses = guessing.all(dead);
-        const std::vector<Guess> ranges = guessing.ranges(graph);
-        guesses.insert(guesses.begin(), ranges.begin(), ranges.end());
+        known = guessing.all(dead, known);
+        guesses = guessing.ranges(graph);
+        guesses.insert(guesses.end(), known.begin(), known.end());
         print("guessed", begun);
         const std::vector<Guess> gone = refuted(graph, conditions, guesses, seed + 1 + round, cycles / 4, samples);
         std::fprintf(stderr, "          %zu guesses, %zu refuted by play\n", guesses.size(), gone.size());
@@ -165,6 +217,7 @@ bool find(Graph graph, std::uint64_t seed, std::int64_t cycles, double seconds, 
         for (const int at : state.gone) std::printf(" %d", at);
         std::printf("\n");
     }
+    if (!is_equal) print_chain(graph, step, seed, cycles / 4);
     for (const Guess &guess : all) print_guess("guess", guess);
     const std::vector<int> &limits = graph.list("limits");
     for (std::size_t at = 0; at + 2 < limits.size(); at += 3)
