@@ -131,7 +131,7 @@ class Finding:
             if signal not in kept:
                 yield f"given up: {model.given_name(signal)}"
                 texts = (text for text, gone in found.refuting if places.get(signal) in gone)
-                yield next((f"  before: {state(self.before(model, it), 0)}" for it in texts), "  it fails in the play")
+                yield next((f"  before: {state(before(model, it), 0)}" for it in texts), "  it fails in the play")
 
     def text(self, model: Learning, guesses: Sequence[Guess], found: Found, note: str) -> str:
         """The register mapping with these guesses."""
@@ -153,7 +153,7 @@ class Finding:
         for at, there, same in [*chain[: MOST_STATES - 1], *chain[MOST_STATES - 1 :][-1:]]:
             text, gone = found.refuting[at]
             said = [names[it] if it < outputs else writing.said(found.guesses[it - outputs]) for it in gone[:3]]
-            show([f"given up: {'; '.join(said)}", f"  before: {state(self.before(model, text), 0)}"])
+            show([f"given up: {'; '.join(said)}", f"  before: {state(before(model, text), 0)}"])
             if there >= 0:
                 show([f"  played: {number(there)} bit times of this phase, {number(same)} with these registers"])
         note = "What follows is left of the guesses of equivalence/hold --find: it is not proved."
@@ -162,7 +162,8 @@ class Finding:
         show([f"not proved: {', '.join(lost) or 'time is up'}; no difference was found either"])
         return NOT_PROVED
 
-    def before(self, model: Learning, text: str) -> Counterexample:
-        """A state that the learner printed, in the form in which states are shown."""
-        given = {held >> 1: bit == "1" for held, bit in zip(model.registers, text)}
-        return Counterexample("step", [model.bit_time], model.gates.values(given), 0, [])
+
+def before(model: Learning, text: str) -> Counterexample:
+    """A state that the learner printed, in the form in which states are shown."""
+    given = {held >> 1: bit == "1" for held, bit in zip(model.registers, text)}
+    return Counterexample("step", [model.bit_time], model.gates.values(given), 0, [])

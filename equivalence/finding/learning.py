@@ -3,14 +3,14 @@
 from __future__ import annotations
 
 import pathlib
-from collections.abc import Iterable
+from collections.abc import Iterable, Sequence
 
 from finding.conditions import CRC_LEVELS, FORMATS, PHASES, SLICE, Conditions
 from finding.wiring import CLOCK_AGO, EARLIER, EVENT, PREFIX
 from holding.asking import HOLDS, SAME
 from holding.faults import Fault
 from holding.gates import FALSE, TRUE
-from holding.netlist import MUTATION, Netlist
+from holding.netlist import MUTATION, Key, Netlist
 from playing.model import Model
 
 CIRCUIT, DESIGN, WIRING, INPUT, UNNAMED = 1, 2, 4, 8, 16  # on whose registers a signal depends
@@ -33,8 +33,8 @@ COARSE_BEGINS = ("in_", "event_", "past_", "bytes_", "own_", "rec_", "dut.", "!"
 class Learning(Model):
     """The graph of one bit time, with conditions and with what is compared under them."""
 
-    def __init__(self, netlist: Netlist) -> None:
-        super().__init__(without_mutations(netlist))
+    def __init__(self, netlist: Netlist, changes: Sequence[Key] = ()) -> None:
+        super().__init__(without_mutations(netlist), changes)
         self.names = self.named_registers()
         self.main = self.gates.signals
         self.supports = self.found_supports()
@@ -77,12 +77,13 @@ class Learning(Model):
     def found_supports(self) -> list[int]:
         """For each signal on whose registers it depends."""
         held = {literal >> 1 for literal in self.registers}
+        chosen = {self.bit_time.literal(key) >> 1 for key in self.changes}
         made = [0] * self.gates.signals
         for signal in range(1, self.gates.signals):
             if signal in self.gates.gates:
                 a, b = self.gates.gates[signal]
                 made[signal] = made[a >> 1] | made[b >> 1]
-            else:
+            elif signal not in chosen:
                 made[signal] = self.side(signal) if signal in held else INPUT
         return made
 

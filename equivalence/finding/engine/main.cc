@@ -2,10 +2,11 @@
 // and called by equivalence/hold --find, with a graph that Python wrote, and prints what Python reads: a word and
 // numbers on a line.
 //
-//     find GRAPH SEED CYCLES SECONDS GOES_ON
+//     find GRAPH SEED CYCLES SECONDS GOES_ON [CHANGE..]
 //
 // CYCLES is for how many clock cycles of 512 lanes it plays; SECONDS the time limit of the proof; GOES_ON is 1 if guesses
-// are to be proved even if an output is refuted. The status is 4 if outputs differ.
+// are to be proved even if an output is refuted. With CHANGE.., what was learned of the design without a change is tried with
+// each of these. The status is 4 if outputs differ.
 
 #include <cstdio>
 #include <cstdlib>
@@ -137,6 +138,38 @@ void print_guess(const char *word, const Guess &guess) {
     std::printf("%s %d %d %d\n", word, guess.condition, guess.target, guess.literal);
 }
 
+// The guesses that hold after a reset.
+std::vector<Guess> after_reset(const Graph &graph, const Conditions &conditions, const std::vector<Guess> &guesses,
+                               int change, double seconds) {
+    Proving proving(graph, conditions, guesses, {true, false, change});
+    proving.run(true, true, seconds);
+    std::vector<Guess> kept;
+    for (std::size_t at = 0; at < proving.all().size(); at++)
+        if (proving.is_alive(at)) kept.push_back(proving.all()[at]);
+    return kept;
+}
+
+// For each of some changes of the design, which the play did not have: where the proof fails. The line has the number of
+// the change, that of the output, the state by which what excludes it was given up, and the first guess that was.
+void prove_changes(const Graph &graph, const Conditions &conditions, const std::vector<Guess> &guesses,
+                   const std::vector<int> &changes, double seconds) {
+    for (const int change : changes) {
+        Proving step(graph, conditions, after_reset(graph, conditions, guesses, change, seconds), {false, false, change});
+        const bool is_done = step.run(false, false, seconds);
+        const std::vector<int> chain = step.chain();
+        if (chain.empty()) {
+            std::printf("change %d %s\n", change, is_done ? "proved" : "undecided");
+        } else {
+            const Refuting &first = step.refuting()[chain.back()], &last = step.refuting()[chain.front()];
+            const int at = first.gone.front() - static_cast<int>(graph.list("same").size());
+            const Guess none{-1, 0, 0}, &guess = at < 0 ? none : step.all()[at];
+            std::printf("change %d %d %s %d %d %d\n", change, last.gone.front(), first.registers.c_str(),
+                        guess.condition, guess.target, guess.literal);
+        }
+        std::fflush(stdout);
+    }
+}
+
 // The first of the guesses about each register under each condition.
 std::vector<Guess> first_of_each(const std::vector<Guess> &guesses) {
     std::set<std::pair<int, int>> known;
@@ -147,7 +180,8 @@ std::vector<Guess> first_of_each(const std::vector<Guess> &guesses) {
 }
 
 // False if outputs differ.
-bool find(Graph graph, std::uint64_t seed, std::int64_t cycles, double seconds, bool goes_on) {
+bool find(Graph graph, std::uint64_t seed, std::int64_t cycles, double seconds, bool goes_on,
+          const std::vector<int> &changes) {
     const double begun = play::now_in_seconds();
     bool is_different = false;
     Samples samples = sampled(graph, seed, cycles, is_different);
@@ -170,15 +204,17 @@ bool find(Graph graph, std::uint64_t seed, std::int64_t cycles, double seconds, 
         if (gone.empty()) break;
     }
     std::printf("guesses %zu\n", guesses.size());
-    // after a reset
-    Proving after_reset(graph, conditions, guesses, true);
-    after_reset.run(true, true, seconds);
-    std::vector<Guess> kept;
-    for (std::size_t at = 0; at < after_reset.all().size(); at++)
-        if (after_reset.is_alive(at)) kept.push_back(after_reset.all()[at]);
+    const std::vector<int> &limits = graph.list("limits");
+    for (std::size_t at = 0; at + 2 < limits.size(); at += 3)
+        std::printf("limit %d %d %d\n", limits[at], limits[at + 1], limits[at + 2]);
+    if (!changes.empty()) {
+        prove_changes(graph, conditions, guesses, changes, seconds);
+        return true;
+    }
+    std::vector<Guess> kept = after_reset(graph, conditions, guesses, 0, seconds);
     std::fprintf(stderr, "          %zu hold after a reset\n", kept.size());
     print("reset", begun);
-    Proving step(graph, conditions, kept, false);
+    Proving step(graph, conditions, kept, {});
     const bool is_done = step.run(false, goes_on, seconds);
     const Proving::Counts &counts = step.counts();
     std::printf("asked %lld %lld %lld\n", static_cast<long long>(counts.questions),
@@ -202,7 +238,7 @@ bool find(Graph graph, std::uint64_t seed, std::int64_t cycles, double seconds, 
     std::vector<char> standing;
     for (std::vector<Guess> *some : {&kept_alone, &proved}) {
         if (!is_equal) break;
-        Proving again(graph, conditions, *some, false, true);
+        Proving again(graph, conditions, *some, {false, true, 0});
         const bool is_reduced = again.reduce(seconds);
         print(is_reduced ? "reduced" : "not reduced", begun);
         if (!is_reduced) continue;
@@ -219,23 +255,23 @@ bool find(Graph graph, std::uint64_t seed, std::int64_t cycles, double seconds, 
     }
     if (!is_equal) print_chain(graph, step, seed, cycles / 4);
     for (const Guess &guess : all) print_guess("guess", guess);
-    const std::vector<int> &limits = graph.list("limits");
-    for (std::size_t at = 0; at + 2 < limits.size(); at += 3)
-        std::printf("limit %d %d %d\n", limits[at], limits[at + 1], limits[at + 2]);
     return true;
 }
 
 }  // namespace find
 
 int main(int count, char **words) {
-    if (count != 6) {
-        std::fprintf(stderr, "usage: find GRAPH SEED CYCLES SECONDS GOES_ON\n");
+    if (count < 6) {
+        std::fprintf(stderr, "usage: find GRAPH SEED CYCLES SECONDS GOES_ON [CHANGE..]\n");
         return 2;
     }
     try {
         const play::Graph graph(words[1]);
         const std::uint64_t seed = std::strtoull(words[2], nullptr, 10);
-        if (!find::find(graph, seed, std::atoll(words[3]), std::atof(words[4]), words[5][0] == '1')) return 4;
+        std::vector<int> changes;
+        for (int at = 6; at < count; at++) changes.push_back(std::atoi(words[at]));
+        const bool goes_on = words[5][0] == '1';
+        if (!find::find(graph, seed, std::atoll(words[3]), std::atof(words[4]), goes_on, changes)) return 4;
     } catch (const std::exception &fault) {
         std::fprintf(stderr, "%s\n", fault.what());
         return 3;

@@ -172,13 +172,20 @@ public:
         std::int64_t questions = 0, answered = 0, gone = 0;
     };
 
+    // What is asked: after a reset, or after any state that the guesses allow; with finer groups of guesses; of the design
+    // with a change.
+    struct Query {
+        bool resets = false, fine = false;
+        int change = 0;
+    };
+
     // The guesses after `outputs` places are those about registers; the ones before are the compared outputs.
-    Proving(const Graph &graph, const Conditions &conditions, const std::vector<Guess> &given_guesses, bool resets,
-            bool fine = false)
+    Proving(const Graph &graph, const Conditions &conditions, const std::vector<Guess> &given_guesses,
+            const Query &query)
         : graph(graph),
           conditions(conditions),
-          resets(resets),
-          fine(fine),
+          resets(query.resets),
+          fine(query.fine),
           unrolled(graph, resets),
           own(graph.list("own").begin(), graph.list("own").end()) {
         const Literals &pairs = graph.list("partners");
@@ -190,6 +197,10 @@ public:
             required.push_back(unrolled.of(1, literal));
         }
         if (!resets) required.push_back(unrolled.of(0, graph.number("legal")));
+        const std::vector<int> &changes = graph.list("changes");
+        for (std::size_t at = 0; at < changes.size(); at++)
+            for (const int frame : {0, 1})
+                required.push_back(unrolled.of(frame, 2 * changes[at]) ^ !(query.change >> at & 1));
         for (const Literal literal : required) unrolled.require(literal);
         outputs = same.size();
         const std::vector<int> &held = graph.list("held");
