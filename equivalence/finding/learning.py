@@ -268,14 +268,15 @@ class Learning(Model):
         return len(self.words[self.names[signal][0]])
 
     def key(self) -> list[int]:
-        """What distinguishes kinds of states: phase, place, role, format, event."""
+        """What distinguishes kinds of states: phase, place, role, format, event, whether the CRC sequence differs."""
         gates, words = self.gates, self.words
         (in_part,) = words[f"{PREFIX}in_part"]
         place = [*words["gates.place"], *[FALSE] * 3]
         at = [gates.choose(in_part, a, b) for a, b in zip(words["gates.heard_count"], place)]
         extended = gates.both(in_part, words["gates.heard"][13])
         event = [*words[f"{EARLIER}{EVENT}"], gates.all(*(it ^ 1 for it in words[f"{CLOCK_AGO}{EVENT}"]))]
-        return [*words["gates.phase"], *at, *words["gates.sender"], extended, *words["gates.first"], *event]
+        differs = gates.both(*words[f"{PREFIX}in_frame"], *words[f"{PREFIX}crc_differs"])
+        return [*words["gates.phase"], *at, *words["gates.sender"], extended, *words["gates.first"], *event, differs]
 
     def write_to_learn(self, path: pathlib.Path) -> None:
         """Writes the file that the learner reads."""

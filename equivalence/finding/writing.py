@@ -99,11 +99,8 @@ class Writing:
 
     def wire(self, signal: int) -> str:
         """The name of a gate, which is written with those that it reads."""
-        atoms = self.model.conditions.literals
-        for name, literal in atoms.items():
-            if literal >> 1 == signal:
-                text = self.model.conditions.atoms[name].text(lambda word: len(self.model.any_word(word)))
-                return f"({text})" if not literal & 1 else f"!({text})"
+        if text := self.test(signal):
+            return text
         waiting = [signal]
         while waiting:
             at = waiting[-1]
@@ -117,6 +114,14 @@ class Writing:
             else:
                 waiting += missing
         return self.wires[signal]
+
+    def test(self, signal: int) -> str:
+        """A signal as the test that it is; empty if it is none."""
+        for name, literal in self.model.conditions.literals.items():
+            if literal >> 1 == signal:
+                text = self.model.conditions.atoms[name].text(lambda word: len(self.model.any_word(word)))
+                return f"({text})" if not literal & 1 else f"!({text})"
+        return ""
 
     def is_named(self, signal: int) -> bool:
         """Whether a signal has a name, or a wire by now."""
@@ -303,7 +308,9 @@ class Writing:
             return self.model.word_numbers[self.limits[guess.target].word]
         if guess.target in self.model.pairs:
             return self.names[self.model.pairs[guess.target][0] >> 1][0]
-        return self.names[guess.target][0]
+        if guess.target in self.names:
+            return self.names[guess.target][0]
+        return "circuit"
 
     def terms_of(self, subject: str, group: Sequence[Guess]) -> list[str]:
         """What is said of a word under one condition; a bit may equal several literals."""
@@ -313,6 +320,9 @@ class Writing:
             if guess.target in self.limits:
                 most = self.limits[guess.target].most
                 made.append(f"{self.word(subject)} <= {len(self.model.words[subject])}'d{most}")
+            elif guess.target not in self.names and guess.target not in self.model.pairs:
+                text = self.test(guess.target)
+                made.append(text if guess.literal else negated(text.removeprefix("(").removesuffix(")")))
             elif guess.target not in self.model.pairs:
                 name, place, is_negated = self.names[guess.target]
                 literal = guess.literal ^ is_negated

@@ -296,7 +296,8 @@ public:
         while (!waiting.empty()) {
             const int one = waiting.back();
             waiting.pop_back();
-            if (in[one]++) continue;
+            if (in[one]) continue;
+            in[one] = 1;
             waiting.insert(waiting.end(), core[one].begin(), core[one].end());
         }
         std::vector<char> made;
