@@ -431,9 +431,9 @@ def with_parts(relation: Relation, names: Sequence[str], body: Sequence[str], lo
 def without_part(relation: Relation, name: str) -> Relation:
     """The wiring with an output that is a wire instead."""
     head, rest = relation.text[: relation.head_end], relation.text[relation.head_end :]
-    gone = re.sub(rf",\s*(output\s+)?{name}\b|\boutput\s+{name}\s*(?=\))", "", head)
-    if gone == head:  # the first of its list
-        gone = re.sub(rf"\b{name}\s*,\s*", "", head)
+    gone = re.sub(rf"\b(output\s+){name}\s*,\s*(?!input\b|output\b)", r"\1", head)  # the first of some outputs
+    if gone == head:
+        gone = re.sub(rf",\s*(output\s+)?{name}\b", "", head)
     return read_relation(f"{gone}\n    wire {name};{rest}", relation.path)
 
 
