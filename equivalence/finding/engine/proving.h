@@ -319,7 +319,7 @@ private:
         if (static_cast<std::size_t>(which) == members.size()) {
             members.push_back({});
             core.push_back({});
-            for (std::vector<char> *flags : {&proved, &needed, &is_queued, &likely}) flags->push_back(0);
+            for (std::vector<char> *flags : {&proved, &needed, &is_queued, &likely, &needs_more}) flags->push_back(0);
             armed.push_back(0);
         }
         members[which].push_back(static_cast<int>(alive.size()));
@@ -386,10 +386,12 @@ private:
         const int asked = unrolled.variable();
         clause.insert(clause.begin(), -asked);
         unrolled.clause(clause);
-        // first under what is likely to be needed, then under all
+        // first under what is likely to be needed, unless that was too little before; then under all
         bool is_refuted = true;
         for (const bool all : {false, true}) {
             if (!is_refuted || (all && is_reducing)) break;
+            if (!all && !is_reducing && needs_more[which]) continue;
+            needs_more[which] = all;
             tally.questions++;
             for (std::size_t at = 0; at < armed.size(); at++)
                 if (armed[at] && (needed[at] || (!is_reducing && (all || likely[at]))))
@@ -522,7 +524,7 @@ private:
     std::vector<std::vector<int>> members, core;
     std::vector<int> group, armed, queue, costs, given_up_by;
     std::vector<char> violated;
-    std::vector<char> alive, proved, needed, is_queued, likely;
+    std::vector<char> alive, proved, needed, is_queued, likely, needs_more;
     Counts tally;
     Literals required;  // assumptions, and that the circuit's state is legal
     play::Dice dice{3};
