@@ -6,13 +6,14 @@ import re
 from collections.abc import Callable, Iterable, Iterator
 from dataclasses import dataclass, field
 
+from finding.wiring import CLOCK_AGO, EARLIER, EVENT
 from holding.gates import FALSE, TRUE, Gates
 
 PHASES = (
     *("idle", "joining", "stuffed_part", "crc_delimiter", "ack_slot", "ack_delimiter", "end_of_frame", "error_flag"),
     *("passive_flag", "overload_flag", "after_flag", "delimiter", "intermission", "suspend", "bus_off"),
 )
-STUFFED_PART, END_OF_FRAME, AFTER_FLAG, BUS_OFF = 2, 6, 10, 14
+STUFFED_PART, CRC_DELIMITER, END_OF_FRAME, AFTER_FLAG, BUS_OFF = 2, 3, 6, 10, 14
 PLACES = {1: 11, 6: 7, 7: 6, 8: 6, 9: 6, 10: 8, 11: 8, 12: 3, 13: 8, 14: 11}
 # the fields as words.v numbers them, and how many levels of them can have been received while they are next
 FIELDS = {"id": 11, "rtr": 1, "ide": 1, "r0": 1, "dlc": 4, "idx": 18, "rtrx": 1, "r1": 1, "r0x": 1, "dlcx": 4}
@@ -22,7 +23,8 @@ FORMATS = ("extended", "standard")
 ENDS = {"standard": (14, 15, 19), "extended": (14, 32, 33, 35, 39)}  # levels after which a field is complete
 DATA_START = {"standard": 19, "extended": 39}
 LEVELS, CRC_LEVELS = 103, 15
-EVENTS = range(1, 12)
+EVENTS = range(12)
+INDEX = {"in": "index", "sent": "sent_index", "read": "read_index"}
 SLICE = re.compile(r"(.*)\[(\d+)(?::(\d+))?\]$")
 
 
@@ -71,24 +73,35 @@ def named_atoms() -> dict[str, Atom]:
     made |= {"stuff_bit": Atom("gates.heard_run", ">=", 5), "no_stuff_bit": Atom("gates.heard_run", "<", 5)}
     made |= {name: Atom("gates.phase", "==", number) for number, name in enumerate(PHASES)}
     made |= {f"place_{number}": Atom("gates.place", "==", number) for number in range(11)}
-    made |= {f"run_{number}": Atom("gates.heard_run", "==", number) for number in range(1, 6)}
-    made |= {f"event_{number}": Atom("was_event_code", "==", number) for number in EVENTS}
+    made |= {f"run_{number}": Atom("gates.heard_run", "==", number) for number in range(6)}
+    made["run_over_5"] = Atom("gates.heard_run", ">=", 6)
+    for number in EVENTS:
+        made[f"event_{number}"] = Atom(f"{EARLIER}{EVENT}", "==", number)
+        made[f"event_a_clock_ago_{number}"] = Atom(f"{CLOCK_AGO}{EVENT}", "==", number)
     made |= {f"in_{name}": Atom(f"words_field[{number}]") for number, name in enumerate(FIELDS)}
     made |= {f"index_{number}": Atom("words_index", "==", number) for number in range(18)}
-    made |= {f"read_{name}": Atom(f"words_read_field[{number}]") for number, name in enumerate(FIELDS)}
-    made |= {f"read_index_{number}": Atom("words_read_index", "==", number) for number in range(18)}
+    for of in ("sent", "read"):
+        made |= {f"{of}_{name}": Atom(f"words_{of}_field[{number}]") for number, name in enumerate(FIELDS)}
+        made |= {f"{of}_index_{number}": Atom(f"words_{of}_index", "==", number) for number in range(18)}
+        made |= {f"{of}_bit_{number}": Atom(f"words_{of}_index[2:0]", "==", number) for number in range(8)}
+        made |= {f"{of}_byte_{number}": Atom(f"words_{of}_index[6:3]", "==", number) for number in range(8)}
     made["before_crc"] = Atom(f"words_field[{list(FIELDS).index('crc')}]", is_negated=True)
     for number in range(8):
-        made[f"read_bit_{number}"] = Atom("words_read_index[2:0]", "==", number)
-        made[f"read_byte_{number}"] = Atom("words_read_index[6:3]", "==", number)
         made[f"bit_{number}"] = Atom("words_index[2:0]", "==", number)
+        made[f"bit_over_{number}"] = Atom("words_index[2:0]", ">=", number + 1)
         made[f"byte_{number}"] = Atom("words_index[6:3]", "==", number)
         made[f"bytes_over_{number}"] = Atom("words_length", ">=", number + 1)
         made[f"bytes_to_{number}"] = Atom("words_length", "<", number + 1)
         made[f"own_bytes_over_{number}"] = Atom("words_own_length", ">=", number + 1)
+    for number in range(9):
+        made[f"bytes_{number}"] = Atom("words_length", "==", number)
+        made[f"own_bytes_{number}"] = Atom("words_own_length", "==", number)
     for number in range(1, LEVELS + 1):
         made[f"past_{number}"] = Atom("words_count", ">=", number)
         made[f"before_crc_{number}"] = Atom("words_data_end", ">=", number)
+    for number in range(1, LEVELS + 1):
+        made[f"frame_left_{number}"] = Atom("words_frame_left", ">=", number)
+        made[f"later_left_{number}"] = Atom("words_later_left", ">=", number)
     for number in range(1, 65):
         made[f"data_left_{number}"] = Atom("words_data_left", ">=", number)
         if number < 30:
@@ -101,7 +114,7 @@ def named_atoms() -> dict[str, Atom]:
 IMPLIED = {name: {"on_bus"} for name in PHASES[:-1]}
 IMPLIED |= {name: {"on_bus", "frame", "after_part"} for name in PHASES[3:7]}
 IMPLIED |= {"stuffed_part": {"on_bus", "frame"}, "after_part": {"frame"}}
-IMPLIED |= {f"{of}_{name}": {"on_bus", "frame", "stuffed_part"} for name in FIELDS for of in ("in", "read")}
+IMPLIED |= {f"{of}_{name}": {"on_bus", "frame", "stuffed_part"} for name in FIELDS for of in INDEX}
 
 
 @dataclass
@@ -153,6 +166,7 @@ class Conditions:
             yield (one,)
         for number in EVENTS:
             yield (f"event_{number}",)
+            yield (f"event_a_clock_ago_{number}",)
         for role in ROLES:
             for more in ((), ("after_part",)):
                 yield ("frame", *more, *role)
@@ -163,6 +177,9 @@ class Conditions:
                     yield ("frame", *role, f"past_{level}", form)
         for form in FORMATS:
             yield ("frame", "transmitter", f"own_{form}")
+            for number in range(9):
+                yield ("frame", form, f"past_{DATA_START[form]}", f"bytes_{number}")
+                yield ("frame", "transmitter", f"own_{form}", f"own_bytes_{number}")
             for number in range(8):
                 yield ("frame", "transmitter", f"own_bytes_over_{number}")
                 yield ("frame", "transmitter", f"own_{form}", f"own_bytes_over_{number}")
@@ -172,6 +189,7 @@ class Conditions:
             yield from self.of_phase(number)
         yield from self.of_fields()
         yield from self.of_reading()
+        yield from self.of_own_formats()
 
     def base(self, number: int) -> tuple[str, ...]:
         """The atoms that hold in a phase."""
@@ -193,7 +211,8 @@ class Conditions:
 
     def of_fields(self) -> Iterator[Iterable[str]]:
         """The stuffed part by field and place in it, and by the levels in a row."""
-        part = self.base(STUFFED_PART)
+        part, after = self.base(STUFFED_PART), self.base(CRC_DELIMITER)
+        yield from ((*after, f"run_{number}") for number in range(1, 5))
         for role in ROLES:
             for due in ("stuff_bit", "no_stuff_bit"):
                 yield (*part, *role, due)
@@ -210,16 +229,26 @@ class Conditions:
                     yield (*inside, f"bit_{number}")
                     yield (*inside, f"byte_{number}")
 
-    def of_reading(self) -> Iterator[Iterable[str]]:
-        """At a transmitter, by what it reads if it works one bit time ahead."""
+    def of_own_formats(self) -> Iterator[Iterable[str]]:
+        """At a transmitter, by field and place in it, and by what the rest of the frame will be."""
         part = (*self.base(STUFFED_PART), "transmitter")
-        for name, longest in FIELDS.items():
-            yield (*part, f"read_{name}")
-            for number in range(longest):
-                yield (*part, f"read_{name}", f"read_index_{number}")
-            for number in range(8 if name == "data" else 0):
-                yield (*part, f"read_{name}", f"read_bit_{number}")
-                yield (*part, f"read_{name}", f"read_byte_{number}")
+        for of in INDEX:
+            for form in FORMATS:
+                for name in ("id", "rtr", "ide"):
+                    for number in range(FIELDS[name]):
+                        yield (*part, f"{of}_{name}", f"{INDEX[of]}_{number}", f"own_{form}")
+
+    def of_reading(self) -> Iterator[Iterable[str]]:
+        """At a transmitter, by what comes after the present level, or after the next one."""
+        part = (*self.base(STUFFED_PART), "transmitter")
+        for of in ("sent", "read"):
+            for name, longest in FIELDS.items():
+                yield (*part, f"{of}_{name}")
+                for number in range(longest):
+                    yield (*part, f"{of}_{name}", f"{of}_index_{number}")
+                for number in range(8 if name == "data" else 0):
+                    yield (*part, f"{of}_{name}", f"{of}_bit_{number}")
+                    yield (*part, f"{of}_{name}", f"{of}_byte_{number}")
 
     def of_flags(self, flags: Iterable[str]) -> Iterator[Iterable[str]]:
         """A flag of the design, in each phase."""
@@ -255,10 +284,14 @@ class Conditions:
         part = (*self.base(STUFFED_PART), "before_crc")
         for number, level in enumerate(self.word("words_latest")):
             self.add([*part, f"past_{number + 1}"], "level ago", [level])
+        for byte in range(8):
+            for bit, level in enumerate(self.word("words_latest")[:7]):
+                atoms = [*self.base(STUFFED_PART), "in_data", f"byte_{byte}", f"bit_over_{bit}"]
+                self.add(atoms, f"byte {byte} so far", [level])
 
     def add_still_to_send(self) -> None:
         """For each number of levels left to send: a register may equal one of these."""
-        for name in ("identifier", "data"):
+        for name in ("identifier", "data", "frame", "later"):
             for number, level in enumerate(self.word(f"words_{name}_to_send")):
                 self.add(["frame", "transmitter", f"{name}_left_{number + 1}"], f"{name} to send", [level])
 

@@ -3,13 +3,14 @@
 from __future__ import annotations
 
 import pathlib
-from collections.abc import Iterable
+from collections.abc import Iterable, Sequence
 
 from finding.conditions import CRC_LEVELS, FORMATS, PHASES, SLICE, Conditions
-from finding.wiring import EARLIER, PREFIX
-from holding.asking import SAME
-from holding.gates import FALSE
-from holding.netlist import MUTATION, Netlist
+from finding.wiring import CLOCK_AGO, EARLIER, EVENT, PREFIX
+from holding.asking import HOLDS, SAME
+from holding.faults import Fault
+from holding.gates import FALSE, TRUE
+from holding.netlist import MUTATION, Key, Netlist
 from playing.model import Model
 
 CIRCUIT, DESIGN, WIRING, INPUT, UNNAMED = 1, 2, 4, 8, 16  # on whose registers a signal depends
@@ -18,7 +19,7 @@ REGISTER, WIDE, KNOWN, GATE, LATE, OF_WIRING, OF_DESIGN = range(7)
 ANYWHERE, IN_FRAME, AT_TRANSMITTER = range(3)  # where a word of the circuit means something
 WIDE_WORDS = ("gates.heard", "gates.own", "gates.heard_check")
 OF_FRAME = ("heard", "heard_count", "heard_last", "heard_run", "heard_check")
-OF_TRANSMITTER = tuple(PREFIX + it for it in ("own", "identifier_", "data_to", "data_left", "read", "next_drive"))
+OF_TRANSMITTER = ("own", "identifier_", "data_to", "data_left", "frame_", "present_drive", "sent", "later_", "read", "next_drive")
 ANY_TIME = ("minus_", "in_", "after_part", "field")
 WIDE_BITS = 16
 RECORD_BITS = 128  # a word with more is a record, whose bits have nothing in common
@@ -32,14 +33,15 @@ COARSE_BEGINS = ("in_", "event_", "past_", "bytes_", "own_", "rec_", "dut.", "!"
 class Learning(Model):
     """The graph of one bit time, with conditions and with what is compared under them."""
 
-    def __init__(self, netlist: Netlist) -> None:
-        super().__init__(without_mutations(netlist))
+    def __init__(self, netlist: Netlist, changes: Sequence[Key] = ()) -> None:
+        super().__init__(without_mutations(netlist), changes)
         self.names = self.named_registers()
         self.main = self.gates.signals
         self.supports = self.found_supports()
         self.flags = self.named_flags()
         self.conditions = Conditions(self.gates, self.any_word, self.flags)
-        self.transmitted = self.guesses_of_transmitter()
+        self.named = [*self.guesses_of_transmitter(), *self.guesses_of_circuit()]
+        self.given = self.given_guesses()
         self.conditions.add_received()
         self.conditions.add_latest()
         self.conditions.add_still_to_send()
@@ -75,27 +77,27 @@ class Learning(Model):
     def found_supports(self) -> list[int]:
         """For each signal on whose registers it depends."""
         held = {literal >> 1 for literal in self.registers}
+        chosen = {self.bit_time.literal(key) >> 1 for key in self.changes}
         made = [0] * self.gates.signals
         for signal in range(1, self.gates.signals):
             if signal in self.gates.gates:
                 a, b = self.gates.gates[signal]
                 made[signal] = made[a >> 1] | made[b >> 1]
-            else:
+            elif signal not in chosen:
                 made[signal] = self.side(signal) if signal in held else INPUT
         return made
 
-    def words_of_design(self) -> dict[str, list[int]]:
-        """The design's named registers by word, without those that are parts of others."""
+    def words_of(self, side: int) -> dict[str, list[int]]:
+        """The named registers of a side by word, without those that are parts of others."""
         made: dict[str, list[int]] = {}
         for literal in self.registers:
-            name, _ = self.names.get(literal >> 1, ("", 0))
-            if name.startswith("dut."):
-                made.setdefault(name, []).append(literal)
+            if self.side(literal >> 1) == side:
+                made.setdefault(self.names[literal >> 1][0], []).append(literal)
         return made
 
     def named_flags(self) -> list[str]:
         """The design's registers of one bit."""
-        return [name for name in self.words_of_design() if len(self.words[name]) == 1 and not SLICE.search(name)]
+        return [name for name in self.words_of(DESIGN) if len(self.words[name]) == 1 and not SLICE.search(name)]
 
     def guesses_of_transmitter(self) -> list[tuple[int, int, int]]:
         """A transmitter hears its own frame, and goes on only while its CRC sequence is heard."""
@@ -106,9 +108,31 @@ class Learning(Model):
             made.append((at, literal >> 1, value ^ (literal & 1)))
         return made
 
+    def guesses_of_circuit(self) -> list[tuple[int, int, int]]:
+        """A frame has up to five equal levels in a row, and no stuff bit is due after the stuffed part."""
+        made = []
+        for atoms, absent in ((["frame"], ("run_0", "run_over_5")), (["frame", "after_part"], ("stuff_bit",))):
+            at = self.conditions.add(atoms, "sent", [FALSE])
+            literals = [self.conditions.literal(name) for name in absent]
+            made += [(at, literal >> 1, literal & 1) for literal in literals if literal > 1]
+        return made
+
+    def given_guesses(self) -> list[tuple[int, int, int]]:
+        """The parts holds_.. of the wiring."""
+        literals = {name: literal for name, literal in self.parts.items() if name.startswith(HOLDS) and literal > 1}
+        if of_inputs := [name for name, it in literals.items() if self.supports[it >> 1] & INPUT]:
+            raise Fault(f"{of_inputs[0]} depends on an input of its bit time, so it is no guess about registers")
+        at = self.conditions.add([], "given", [TRUE])
+        self.given_condition = at
+        return [(at, literal >> 1, literal & 1 ^ 1) for literal in literals.values()]
+
+    def given_name(self, signal: int) -> str:
+        """The part of the wiring with this signal."""
+        return next(name for name, it in self.parts.items() if name.startswith(HOLDS) and it >> 1 == signal)
+
     def pairs_of_words(self) -> dict[int, tuple[int, int]]:
         """Whether bits of two words of the length of a CRC sequence differ: by signal, both registers."""
-        words = [word for word in self.words_of_design().values() if len(word) == CRC_LEVELS]
+        words = [word for word in self.words_of(DESIGN).values() if len(word) == CRC_LEVELS]
         made: dict[int, tuple[int, int]] = {}
         for number, one in enumerate(words):
             for other in words[:number]:
@@ -120,7 +144,7 @@ class Learning(Model):
         made: dict[int, int] = {}
         for name, word in self.words.items():
             if name.startswith(PREFIX) and not name[len(PREFIX) :].startswith(ANY_TIME):
-                domain = AT_TRANSMITTER if name.startswith(OF_TRANSMITTER) else IN_FRAME
+                domain = AT_TRANSMITTER if name[len(PREFIX) :].startswith(OF_TRANSMITTER) else IN_FRAME
             elif name == "gates.own" or name.removeprefix("gates.") in OF_FRAME:
                 domain = AT_TRANSMITTER if name == "gates.own" else IN_FRAME
             else:
@@ -178,7 +202,7 @@ class Learning(Model):
 
     def is_late(self, signal: int) -> bool:
         """Whether it is what the circuit had a bit time ago."""
-        return self.names.get(signal, ("", 0))[0].startswith(EARLIER)
+        return self.names.get(signal, ("", 0))[0].startswith((EARLIER, CLOCK_AGO))
 
     def of_side(self, side: int) -> list[int]:
         """The named registers of a side, without what the circuit had a bit time ago."""
@@ -192,8 +216,10 @@ class Learning(Model):
         self.word_numbers = sorted({self.group(it) for it in targets})
         words = {name: number for number, name in enumerate(self.word_numbers)}
         families = {name: number for number, name in enumerate(dict.fromkeys(it.family for it in conditions))}
-        ranges = {name: word for name, word in self.words_of_design().items() if len(word) in NARROW}
-        others = [*self.pairs, *(signal for _, signal, _ in self.transmitted)]
+        ranges = {**self.words_of(DESIGN), **self.words_of(WIRING)}
+        ranges = {name: word for name, word in ranges.items() if len(word) in NARROW and name in words}
+        named = [*self.named, *self.given]
+        others = [*self.pairs, *(signal for _, signal, _ in self.named)]
         made = self.lists([])
         made |= {
             "key": self.key(),
@@ -207,11 +233,16 @@ class Learning(Model):
             "wide": [it for it in self.of_side(DESIGN) if WIDE_BITS < self.width(it) <= RECORD_BITS],
             "own": self.of_side(CIRCUIT),
             "words": [number for it in targets for number in (it, words[self.group(it)])]
-            + [number for it in others for number in (it, len(words))],
+            + [number for it in others for number in (it, len(words))]
+            + [number for at, (_, it, _) in enumerate(self.given) for number in (it, len(words) + 1 + at)],
             "partners": [number for signal, kind in self.partners().items() for number in (2 * signal, kind)],
             "domains": [number for pair in self.domains().items() for number in pair],
             "condition_domains": [self.domain_of_condition(at) for at in range(len(conditions))],
-            "named_guesses": [number for guess in self.transmitted for number in guess],
+            "named_guesses": [number for guess in named for number in guess],
+            "asked_conditions": [self.given_condition],
+            "count": self.words["gates.heard_count"],
+            "place": self.words["gates.place"],
+            "design": self.of_side(DESIGN),
             "held": [int(not self.supports[it >> 1] & INPUT) for it in self.literals_of(SAME)],
             "gate_conditions": [at for at, it in enumerate(conditions) if len(it.atoms) <= 2 and it.atoms <= ROLES],
             "design_gates": [it for it in sorted(self.gates.gates) if it < self.main and self.supports[it] == DESIGN],
@@ -237,13 +268,15 @@ class Learning(Model):
         return len(self.words[self.names[signal][0]])
 
     def key(self) -> list[int]:
-        """What distinguishes kinds of states: phase, place, role, format."""
+        """What distinguishes kinds of states: phase, place, role, format, event, whether the CRC sequence differs."""
         gates, words = self.gates, self.words
         (in_part,) = words[f"{PREFIX}in_part"]
         place = [*words["gates.place"], *[FALSE] * 3]
         at = [gates.choose(in_part, a, b) for a, b in zip(words["gates.heard_count"], place)]
         extended = gates.both(in_part, words["gates.heard"][13])
-        return [*words["gates.phase"], *at, *words["gates.sender"], extended, *words["gates.first"]]
+        event = [*words[f"{EARLIER}{EVENT}"], gates.all(*(it ^ 1 for it in words[f"{CLOCK_AGO}{EVENT}"]))]
+        differs = gates.both(*words[f"{PREFIX}in_frame"], *words[f"{PREFIX}crc_differs"])
+        return [*words["gates.phase"], *at, *words["gates.sender"], extended, *words["gates.first"], *event, differs]
 
     def write_to_learn(self, path: pathlib.Path) -> None:
         """Writes the file that the learner reads."""

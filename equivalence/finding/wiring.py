@@ -12,7 +12,8 @@ from holding.relation import Relation, blanked, read_relation
 SOURCE = pathlib.Path(__file__).resolve().parent.parent / "words.v"
 PORT = re.compile(r"^    (input|output) (?:\[(\d+):0\] )?([\w, ]+?),?\s*(?://.*)?$", re.M)
 MODULE = "riddlesage_words"
-PREFIX, EARLIER = "words_", "was_"
+PREFIX, EARLIER, CLOCK_AGO = "words_", "was_", "clock_ago_"
+EVENT = "event_code"
 END = re.compile(r"\bendmodule\b")
 
 
@@ -63,6 +64,12 @@ def earlier(widths: dict[str, int]) -> list[str]:
     return lines
 
 
+def clock_ago() -> list[str]:
+    """The lines for the event a clock cycle ago: it is another one than a bit time ago if `enable` is not always 1."""
+    name = CLOCK_AGO + EVENT
+    return [f"    reg [3:0] {name};", f"    always @(posedge clock) {name} <= gates.{EVENT};"]
+
+
 def earlier_words(circuit: Circuit) -> dict[str, int]:
     """The words of the circuit whose values a bit time ago are of use."""
     widths = {**circuit.widths["reg"], **circuit.widths["output"]}
@@ -79,4 +86,4 @@ def with_lines(relation: Relation, lines: list[str]) -> Relation:
 
 def with_words(relation: Relation, circuit: Circuit) -> Relation:
     """The wiring with all of these words."""
-    return with_lines(relation, [*instance(), *earlier(earlier_words(circuit))])
+    return with_lines(relation, [*instance(), *earlier(earlier_words(circuit)), *clock_ago()])

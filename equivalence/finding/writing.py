@@ -8,7 +8,7 @@ from dataclasses import dataclass
 from typing import Any
 
 from finding.learning import Learning
-from finding.wiring import EARLIER, PREFIX, earlier, earlier_words, instance
+from finding.wiring import CLOCK_AGO, EARLIER, PREFIX, clock_ago, earlier, earlier_words, instance
 from holding.asking import HOLDS, SAME
 from holding.faults import Fault
 from holding.relation import Relation, blanked, read_relation
@@ -16,7 +16,7 @@ from holding.relation import Relation, blanked, read_relation
 BIT = re.compile(r"(.*)\[(\d+)\]$", re.S)
 NAME = re.compile(r"[^A-Za-z0-9]+")
 LEVEL = re.compile(r"(?:past|left)_(\d+)")
-LOOPED = ("level ", "identifier to", "data to")
+LOOPED = ("level ", "identifier to", "data to", "frame to", "later to")
 LINE = 118
 LOOP = 4  # places from which on a loop is shorter
 
@@ -99,11 +99,8 @@ class Writing:
 
     def wire(self, signal: int) -> str:
         """The name of a gate, which is written with those that it reads."""
-        atoms = self.model.conditions.literals
-        for name, literal in atoms.items():
-            if literal >> 1 == signal:
-                text = self.model.conditions.atoms[name].text(lambda word: len(self.model.any_word(word)))
-                return f"({text})" if not literal & 1 else f"!({text})"
+        if text := self.test(signal):
+            return text
         waiting = [signal]
         while waiting:
             at = waiting[-1]
@@ -117,6 +114,14 @@ class Writing:
             else:
                 waiting += missing
         return self.wires[signal]
+
+    def test(self, signal: int) -> str:
+        """A signal as the test that it is; empty if it is none."""
+        for name, literal in self.model.conditions.literals.items():
+            if literal >> 1 == signal:
+                text = self.model.conditions.atoms[name].text(lambda word: len(self.model.any_word(word)))
+                return f"({text})" if not literal & 1 else f"!({text})"
+        return ""
 
     def is_named(self, signal: int) -> bool:
         """Whether a signal has a name, or a wire by now."""
@@ -196,6 +201,8 @@ class Writing:
         found: dict[str, dict[int, list[Guess]]] = {}
         loops: dict[tuple[str, str, int, int], dict[int, Guess]] = {}
         for guess in guesses:
+            if guess.condition == self.model.given_condition:
+                continue
             subject = self.subject(guess)
             if shape := self.shape(guess):
                 loops.setdefault((subject, self.model.conditions.all[guess.condition].family, *shape[:2]), {})[
@@ -212,7 +219,9 @@ class Writing:
         return sorted(made.items())
 
     def said(self, guess: Guess) -> str:
-        """A guess in Verilog."""
+        """A guess in Verilog, or the name of the part that it is."""
+        if guess.condition == self.model.given_condition:
+            return self.model.given_name(guess.target)
         return self.implied(guess.condition, self.terms_of(self.subject(guess), [guess]))
 
     def implied(self, condition: int, terms: Sequence[str]) -> str:
@@ -299,7 +308,9 @@ class Writing:
             return self.model.word_numbers[self.limits[guess.target].word]
         if guess.target in self.model.pairs:
             return self.names[self.model.pairs[guess.target][0] >> 1][0]
-        return self.names[guess.target][0]
+        if guess.target in self.names:
+            return self.names[guess.target][0]
+        return "circuit"
 
     def terms_of(self, subject: str, group: Sequence[Guess]) -> list[str]:
         """What is said of a word under one condition; a bit may equal several literals."""
@@ -309,6 +320,9 @@ class Writing:
             if guess.target in self.limits:
                 most = self.limits[guess.target].most
                 made.append(f"{self.word(subject)} <= {len(self.model.words[subject])}'d{most}")
+            elif guess.target not in self.names and guess.target not in self.model.pairs:
+                text = self.test(guess.target)
+                made.append(text if guess.literal else negated(text.removeprefix("(").removesuffix(")")))
             elif guess.target not in self.model.pairs:
                 name, place, is_negated = self.names[guess.target]
                 literal = guess.literal ^ is_negated
@@ -355,13 +369,19 @@ class Writing:
         names, lines = [], []
         for name, terms in [*self.parts(guesses), *((name, [name]) for name in held)]:
             names.append(HOLDS + NAME.sub("_", name.removeprefix("dut.")).strip("_"))
+            while re.search(rf"\b{names[-1]}\b", relation.text):
+                names[-1] += "_found"
             lines += statement(names[-1], terms)
         used = {word for line in [*lines, *self.lines] for word in re.findall(rf"\b{EARLIER}(\w+)", line)}
         widths = {name: width for name, width in earlier_words(self.model.netlist.circuit).items() if name in used}
         body = [f"    // {note}", *instance("\n".join([*self.lines, *lines])), *earlier(widths)]
+        if any(CLOCK_AGO in line for line in [*self.lines, *lines]):
+            body += clock_ago()
         if any("(at = " in line for line in self.lines):
             body.append("    genvar at;")
-        return with_parts(relation, names, [*body, *self.lines, *lines])
+        kept = {it.target for it in guesses if it.condition == self.model.given_condition}
+        lost = [self.model.given_name(signal) for _, signal, _ in self.model.given if signal not in kept]
+        return with_parts(relation, names, [*body, *self.lines, *lines], lost)
 
 
 def negated(test: str) -> str:
@@ -394,8 +414,10 @@ def broken(line: str) -> list[str]:
     return [*made, line]
 
 
-def with_parts(relation: Relation, names: Sequence[str], body: Sequence[str]) -> str:
-    """The wiring with these outputs and these lines."""
+def with_parts(relation: Relation, names: Sequence[str], body: Sequence[str], lost: Sequence[str]) -> str:
+    """The wiring with these outputs and these lines, and without some outputs."""
+    for name in lost:
+        relation = without_part(relation, name)
     code = blanked(relation.text)
     close = code.rindex(")", 0, relation.head_end)
     if not re.search(r"\binput\b", code[: relation.head_end]):
@@ -406,9 +428,13 @@ def with_parts(relation: Relation, names: Sequence[str], body: Sequence[str]) ->
     return "\n".join([head + relation.text[close:end].rstrip(), "", *body, "endmodule", ""])
 
 
-def checked(text: str, path: str) -> Relation:
-    """The register mapping in this text."""
-    return read_relation(text, path)
+def without_part(relation: Relation, name: str) -> Relation:
+    """The wiring with an output that is a wire instead."""
+    head, rest = relation.text[: relation.head_end], relation.text[relation.head_end :]
+    gone = re.sub(rf"\b(output\s+){name}\s*,\s*(?!input\b|output\b)", r"\1", head)  # the first of some outputs
+    if gone == head:
+        gone = re.sub(rf",\s*(output\s+)?{name}\b", "", head)
+    return read_relation(f"{gone}\n    wire {name};{rest}", relation.path)
 
 
 def held_outputs(model: Learning, held: Sequence[int]) -> list[str]:

@@ -2,6 +2,7 @@
 
 from __future__ import annotations
 
+import functools
 from collections.abc import Callable, Iterable, Mapping
 from typing import Union
 
@@ -193,8 +194,17 @@ class Netlist:
 
     def called(self, cell: str, pins: dict[str, list[Key]]) -> str:
         """The word that a cell drives, or its name in yosys."""
-        names = [name for name, keys in self.words.items() if set(pins.get("Q", ())) & set(keys)]
-        return f"register {min(names, key=lambda it: (it.count('.'), it))}" if names else cell
+        names = [self.first_names[key] for key in pins.get("Q", ()) if key in self.first_names]
+        return f"register {min(names, key=order_of)}" if names else cell
+
+    @functools.cached_property
+    def first_names(self) -> dict[Key, str]:
+        """For each bit the name of a word that has it."""
+        made: dict[Key, str] = {}
+        for name in sorted(self.words, key=order_of):
+            for key in self.words[name]:
+                made.setdefault(key, name)
+        return made
 
     def take_instance(self, pins: dict[str, list[Key]]) -> None:
         """Connects the circuit's ports."""
@@ -206,6 +216,11 @@ class Netlist:
             raise Fault(f"the register mapping must connect its input {CLOCK} to gates.{CLOCK}")
         for name, width in self.circuit.widths["output"].items():
             self.join(pins.get(name, []), self.circuit_word(name, width))
+
+
+def order_of(name: str) -> tuple[int, str]:
+    """The order of names: the outer ones first."""
+    return name.count("."), name
 
 
 class BitTime:

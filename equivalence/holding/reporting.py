@@ -6,7 +6,7 @@ import pathlib
 
 from holding.asking import FIRST, GIVEN, HOLDS, Asking, Counterexample, Result
 from holding.faults import DIFFERS, NOTHING_HELD, Fault
-from holding.waves import waves
+from holding.waves import Column, waves
 
 # a phase by its number: its word, the register that counts in it, its rule in docs/ACCESS.md
 PHASES = [
@@ -125,10 +125,10 @@ def lines_of(result: Result, proved: str) -> list[str]:
     return [f"{result.query}: counterexample, {result.seconds:.1f} s", *report(result.found)]
 
 
-def write_waves(found: Counterexample, path: str | None) -> None:
-    """Writes waves, if they are asked for."""
+def write_waves(found: Counterexample, path: str | None, others: dict[str, Column] | None = None) -> None:
+    """Writes waves, if they are asked for, with words that the netlist doesn't have."""
     if path:
-        pathlib.Path(path).write_text(waves(found), encoding="ascii")
+        pathlib.Path(path).write_text(waves(found, others or {}), encoding="ascii")
         print(f"  waves: {path}")
 
 

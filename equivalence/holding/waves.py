@@ -6,9 +6,12 @@ import string
 from collections.abc import Iterator
 
 from holding.asking import Counterexample
-from holding.netlist import CLOCK
+from holding.netlist import CLOCK, MUTATION
 
 DIGITS = string.ascii_letters + string.digits
+RUN = "run."  # the scope of what the netlist doesn't have
+INTEGER = 32  # its bits
+Column = list[int]  # the values of a word in all bit times; a negative one is undefined
 
 
 def identifier(number: int) -> str:
@@ -31,15 +34,31 @@ def scopes(words: dict[str, int]) -> Iterator[str]:
         for scope in wanted[len(within) :]:
             within.append(scope)
             yield f"$scope module {scope} $end"
-        yield f"$var wire {words[name]} {identifier(number)} {last} $end"
+        kind = "integer" if name.startswith(RUN) and words[name] == INTEGER else "wire"
+        yield f"$var {kind} {words[name]} {identifier(number)} {last} $end"
     yield from ["$upscope $end"] * len(within)
 
 
-def waves(found: Counterexample) -> str:
-    """The bit times of a counterexample."""
+def shown_words(found: Counterexample) -> dict[str, int]:
+    """The words of the netlist with their widths, without the clock and without the input of the self-check."""
     netlist = found.bit_times[0].netlist
+    hidden = [netlist.inputs[CLOCK], netlist.inputs.get(MUTATION)]
     names = sorted(netlist.words, key=lambda name: name.split("."))
-    words = {name: len(netlist.words[name]) for name in names if netlist.words[name] != netlist.inputs[CLOCK]}
+    return {name: len(netlist.words[name]) for name in names if netlist.words[name] not in hidden}
+
+
+def digits(number: int, width: int) -> str:
+    """A value of a word."""
+    return f"{number:0{width}b}" if number >= 0 else "x" * width
+
+
+def waves(found: Counterexample, others: dict[str, Column]) -> str:
+    """The bit times of a counterexample, with words that the netlist doesn't have."""
+    words = shown_words(found)
+    columns = {name: [found.number(at, name) for at in range(len(found.bit_times))] for name in words}
+    for name, column in others.items():
+        words[RUN + name] = 1 if set(column) <= {0, 1} else INTEGER
+        columns[RUN + name] = column
     clock = identifier(len(words))
     lines = ["$comment ten time units are one bit time $end", "$timescale 1 ns $end", "$scope module equivalence $end"]
     lines += [*scopes(words), f"$var wire 1 {clock} {CLOCK} $end", "$upscope $end", "$enddefinitions $end"]
@@ -47,8 +66,8 @@ def waves(found: Counterexample) -> str:
     for at in range(len(found.bit_times)):
         lines += [f"#{10 * at}", f"1{clock}"]
         for number, (name, width) in enumerate(words.items()):
-            digits = f"{found.number(at, name):0{width}b}"
-            value = f"b{digits} {identifier(number)}" if width > 1 else f"{digits}{identifier(number)}"
+            shown = digits(columns[name][at], width)
+            value = f"b{shown} {identifier(number)}" if width > 1 else f"{shown}{identifier(number)}"
             if before.get(name) != value:
                 lines.append(value)
             before[name] = value

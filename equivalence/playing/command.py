@@ -68,7 +68,7 @@ def show_difference(model: Model, played: Played, wanted: Wanted) -> int:
     if not shown.fails:
         raise Fault("the simulator contradicts itself: the run that it shortened has no difference", FAILED)
     show(run_lines(shown))
-    write_waves(shown, wanted.vcd)
+    write_waves(shown, wanted.vcd, shown.columns())
     if wanted.keep:
         show([keep(shown, wanted.keep, wanted.seed)])
     show([CHOICES, f"different: {', '.join(shown.fails)}"])

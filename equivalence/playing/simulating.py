@@ -117,3 +117,12 @@ class Shown(Counterexample):
     def number(self, at: int, name: str) -> int:
         """The value of a word in a bit time, as a number."""
         return sum(self.value(at, literal) << place for place, literal in enumerate(self.model.words[name]))
+
+    def columns(self) -> dict[str, list[int]]:
+        """What waves show besides: the bit time as the report counts it, the tester's level, whether it is forced."""
+        actions = [row.action for row in self.run.rows]
+        return {
+            "bit_time": list(range(-1, len(actions) - 1)),
+            "tester": [int(action != DOMINANT) for action in actions],
+            "forced": [int(action == FORCED) for action in actions],
+        }

@@ -17,6 +17,7 @@ sys.path.insert(0, str(FOLDER))
 
 from finding.conditions import Atom, named_atoms
 from finding.wiring import instance, ports, with_lines
+from finding.writing import without_part
 from holding.faults import Fault
 from holding.gates import Gates
 from holding.relation import read_relation
@@ -48,6 +49,18 @@ begin
     end process;
 end architecture;
 """
+# a design that has the circuit in it
+WITH_COPY = """module small(input clock, reset, bus, integrating, waits, extended, input [28:0] identifier, output drive);
+    copied copy(.clock(clock), .reset(reset), .integrating(integrating), .enable(1'b1), .bus(bus),
+        .overload_request(1'b0), .overload_count(2'd0), .waits(waits), .wait_extended(extended), .wait_remote(1'b0),
+        .wait_identifier(identifier), .wait_dlc(4'd1), .wait_data(64'hc3), .drive(level));
+    wire level;
+    reg [19:0] age;
+    always @(posedge clock) age <= reset ? 20'd0 : age + 20'd1;
+    assign drive = %s;
+endmodule
+"""
+INSTANCES = "riddlesage_controller gates (.clock(clock)); small dut (.clock(clock));"
 CIRCUIT = str(FOLDER / "riddlesage_controller.v")
 
 
@@ -64,11 +77,11 @@ class Refusals(Files):
             self.assertEqual(self.run_hold(*words, "wiring.v", "small.v").returncode, 2, words)
 
     @unittest.skipUnless(has_tools(), "a tool is not installed")
-    def test_parts_of_a_mapping(self) -> None:
-        text = wiring({**SAME, "holds_state": "dut.state == 4'd5"})
+    def test_a_part_that_depends_on_an_input(self) -> None:
+        text = wiring({**SAME, "holds_state": "dut.state == 4'd5 || bus"})
         files = (self.put("wiring.v", text), self.put("small.v", DESIGN))
         ran = self.run_hold("--find", "--circuit", CIRCUIT, *files)
-        self.prints(ran, 1, "--find takes a wiring without holds_..: holds_state")
+        self.prints(ran, 1, "holds_state depends on an input of its bit time, so it is no guess about registers")
 
     @unittest.skipUnless(has_tools(), "a tool is not installed")
     def test_a_design_that_differs(self) -> None:
@@ -86,7 +99,50 @@ class Refusals(Files):
         self.assertIn("apt-get install libcadical-dev", str(caught.exception))
 
 
+@unittest.skipUnless(has_tools(), "a tool is not installed")
+class Searches(Files):
+    """The design has the circuit in it, as `copy`."""
+
+    def found(self, drive: str, parts: dict[str, str]) -> tuple[int, str, str]:
+        """The status and the output for a design that drives this, and the mapping written."""
+        circuit = pathlib.Path(CIRCUIT).read_text().replace("module riddlesage_controller", "module copied")
+        text = wiring({"same_drive": "gates.drive == dut.drive", **parts})
+        names = ("clock", "reset", "bus", "integrating", "waits", "extended", "identifier")
+        text = re.sub(r"small dut\(.*\)", f"small dut({', '.join(f'.{it}({it})' for it in names)})", text)
+        made = str(pathlib.Path(self.put("made.v", "")))
+        files = (self.put("wiring.v", text), self.put("copied.v", circuit), self.put("small.v", WITH_COPY % drive))
+        ran = self.run_hold("--find", "-o", made, "--circuit", CIRCUIT, *files)
+        return ran.returncode, ran.stdout, pathlib.Path(made).read_text()
+
+    def test_parts_of_the_wiring_are_guesses(self) -> None:
+        parts = {"holds_phase": "dut.copy.phase == gates.phase", "holds_place": "gates.place < 4'd9"}
+        status, printed, made = self.found("level", parts)
+        self.assertEqual((status, printed.splitlines()[-1]), (0, "equal in every run"), printed)
+        self.assertIn("given up: holds_place\n  it fails in the play\n", printed)
+        self.assertRegex(made, r"(?s)output holds_phase,.*wire holds_place;")
+
+    def test_a_difference_that_no_play_reaches(self) -> None:
+        status, printed, _ = self.found("level ^ (age == 20'hfffff)", {})
+        self.assertEqual(status, 4, printed)
+        self.assertRegex(printed, r"(?m)^given up: .*dut\.age")
+        self.assertRegex(printed, r"(?m)^  played: [\d,]+ bit times of this phase, 0 with these registers$")
+        self.assertIn("\nnot proved: same_drive; no difference was found either\n", printed)
+
+
 class Words(unittest.TestCase):
+    def test_an_output_becomes_a_wire(self) -> None:
+        heads = (
+            ("output same_drive, holds_x, holds_y", "output same_drive, holds_y"),
+            ("output holds_x, same_drive", "output same_drive"),
+            ("output same_drive,\n output holds_x", "output same_drive"),
+        )
+        for given, left in heads:
+            text = f"module wiring (input clock, reset, {given});\n    {INSTANCES}\n    assign holds_x = 1;\nendmodule\n"
+            made = without_part(read_relation(text, "wiring.v"), "holds_x").text
+            wanted = f"module wiring (input clock, reset, {left});\n    wire holds_x;"
+            self.assertEqual(made[: len(wanted)], wanted)
+
+
     def test_the_module_has_the_ports_that_are_connected(self) -> None:
         of = ports()
         self.assertEqual((of["input"]["heard"], of["output"]["field"], of["output"]["index_less"]), (103, 12, 7))
@@ -111,7 +167,7 @@ class Words(unittest.TestCase):
         known = {f"words_{name}" for name in ports()["output"]}
         for atom in named_atoms().values():
             name = re.sub(r"\[.*", "", atom.word)
-            self.assertTrue(name in known or name.startswith(("gates.", "was_")), name)
+            self.assertTrue(name in known or name.startswith(("gates.", "was_", "clock_ago_")), name)
 
 
 @unittest.skipUnless(has_tools(), "a tool is not installed")

@@ -21,6 +21,7 @@ from holding.faults import Fault
 from holding.netlist import Netlist
 from holding.reading import Design, read_both
 from holding.relation import read_relation
+from holding.waves import waves
 from kit.documents import read_document, write_case, write_transcript
 from peer.controller import controller
 from peer.verilog import written
@@ -31,7 +32,7 @@ from playing.keeping import FAMILY, case, obstacle, transcript
 from playing.model import Model
 from playing.printing import difference, verdict
 from playing.rules import ALL, RULES, Counts
-from playing.simulating import FORCED, NO_CHANGE, Frame, Run, Shown, read_output, simulate
+from playing.simulating import DOMINANT, FORCED, NO_CHANGE, Frame, Run, Shown, read_output, simulate
 
 # drives recessive, and has a register that a reset sets
 DESIGN = "module small(input clock, input reset, input bus, output drive, output reg [3:0] state); \
@@ -96,14 +97,16 @@ class Plays(Played):
         self.assertNotEqual(first, other)
 
     def test_what_is_written(self) -> None:
-        kept, waves = self.room / "kept.toml", self.room / "waves.vcd"
-        self.play(LATE, "--keep", str(kept), "--vcd", str(waves), status=1, said=f"  case: {kept}\n")
+        kept, vcd = self.room / "kept.toml", self.room / "waves.vcd"
+        self.play(LATE, "--keep", str(kept), "--vcd", str(vcd), status=1, said=f"  case: {kept}\n")
         cases, transcripts = read_document(kept.read_text(), [])
         self.assertEqual([it.name for it in cases], [f"{FAMILY}-1"])
         self.assertEqual(len(cases[0].levels), len(transcripts[0].drove))
         self.assertRegex(cases[0].offers[0][1], "^(S ...|E .{8}) D 1 c3$")
         self.assertEqual(transcripts[0].drove[-1], "0")
-        self.assertIn("$scope module dut $end", waves.read_text())
+        text = vcd.read_text()
+        self.assertIn("$scope module dut $end", text)
+        self.assertNotIn(" mutation $end", text)
 
     def test_inputs_are_chosen_that_meet_an_assumption(self) -> None:
         text = wiring({**SAME, **SILENCE, "given_mode": "mode == 3'd5"})
@@ -221,6 +224,20 @@ class Simulator(Files):
         self.assertEqual(len(read_document(text, [])[1]), 1)
         shown.run.rows[1].action = FORCED
         self.assertIn("forced", case(shown, "play-1").needs)
+
+    def test_the_waves_have_the_run(self) -> None:
+        shown = self.shown(LATE)
+        shown.run.rows[1].action, shown.run.rows[2].action = FORCED, DOMINANT
+        columns = shown.columns()
+        self.assertEqual(columns["bit_time"], list(range(-1, shown.at + 1)))
+        self.assertEqual((columns["tester"][1:3], columns["forced"][1:3]), ([1, 0], [1, 0]))
+        text = waves(shown, columns)
+        declared = re.findall(r"(?m)^\$scope module run \$end\n(?:\$var \w+ \d+ \w+ \w+ \$end\n){3}\$upscope", text)
+        self.assertEqual(len(declared), 1)
+        code = re.search(r"(?m)^\$var integer 32 (\w+) bit_time \$end$", text)
+        assert code is not None
+        numbers = re.findall(rf"(?m)^b([01x]{{32}}) {code[1]}$", text)
+        self.assertEqual(numbers, ["x" * 32, *(f"{it:032b}" for it in range(shown.at + 1))])
 
     def test_what_no_case_says(self) -> None:
         shown = self.shown(LATE)

@@ -19,7 +19,7 @@ SONAME = f"libriddlesage.so.{VERSION.split('.')[0]}"
 BINDINGS = ("bindings/examples", "bindings/rust", "bindings/sv", "bindings/verilog", "bindings/vhdl")
 SHARED = ("conformance", "equivalence", "examples", *BINDINGS)
 OF_THE_REPOSITORY = (
-    *("check", "record", "mechanical", "mutants", "mutations", "hold_mutations", "play_mutations"),
+    *("check", "record", "mechanical", "mutants", "mutations", "hold_mutations", "play_mutations", "find_mutations"),
     *("peer", "peers", "tests", ".clang-tidy"),
 )
 # The files of the circuit, and the arguments with which cangates writes each.

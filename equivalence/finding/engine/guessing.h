@@ -40,25 +40,38 @@ public:
         }
         const std::vector<int> &meant = graph.list("domains");
         for (std::size_t at = 0; at + 1 < meant.size(); at += 2) domains[meant[at]] = meant[at + 1];
-        for (std::size_t at = 0; at < targets.size(); at++) places[targets[at]] = static_cast<int>(at);
         Dice dice(11);
         for (std::size_t at = 0; at < values.size(); at++) factors.push_back(dice.next() | 1);
     }
 
     // What does not follow from a guess under a coarser condition. Those in `dead` are not made, nothing follows from
-    // them.
-    std::vector<Guess> all(const std::vector<Guess> &dead) {
-        for (const Guess &guess : dead) is_dead.insert(code(guess));
-        std::vector<Guess> made = named();
-        const std::vector<int> registers = targets, pairs = graph.list("pairs");
+    // them. Guesses from before are kept, except those about registers about which one is dead.
+    std::vector<Guess> all(const std::vector<Guess> &dead, const std::vector<Guess> &known) {
+        std::unordered_set<int> renewed;
+        for (const Guess &guess : dead) {
+            is_dead.insert(code(guess));
+            renewed.insert(guess.target);
+        }
+        std::vector<Guess> made;
+        for (const Guess &guess : known)
+            if (!renewed.count(guess.target)) made.push_back(guess);
+        const auto keep_renewed = [&](std::vector<int> signals) {
+            const auto is_kept = [&](int signal) { return !known.empty() && !renewed.count(signal); };
+            signals.erase(std::remove_if(signals.begin(), signals.end(), is_kept), signals.end());
+            return signals;
+        };
+        for (const Guess &guess : named())
+            if (known.empty() || renewed.count(guess.target)) made.push_back(guess);
+        targets = keep_renewed(targets);
+        number_targets();
+        const std::vector<int> registers = targets, pairs = keep_renewed(graph.list("pairs"));
         const std::unordered_set<int> of_pairs = flags("pair_conditions");
         covered.assign(conditions.size(), std::vector<char>(registers.size(), 0));
         for (std::size_t at = 0; at < conditions.size(); at++)
             if (!of_pairs.count(static_cast<int>(at))) guess_under(static_cast<int>(at), made);
         guess_gates(made);
         targets = pairs;
-        places.clear();
-        for (std::size_t at = 0; at < pairs.size(); at++) places[pairs[at]] = static_cast<int>(at);
+        number_targets();
         covered.assign(conditions.size(), std::vector<char>(pairs.size(), 0));
         for (const int condition : graph.list("pair_conditions")) guess_under(condition, made);
         return made;
@@ -164,6 +177,11 @@ private:
             if (holds) made.push_back(guess);
         }
         return made;
+    }
+
+    void number_targets() {
+        places.clear();
+        for (std::size_t at = 0; at < targets.size(); at++) places[targets[at]] = static_cast<int>(at);
     }
 
     bool is_covered(int condition, int place) const {

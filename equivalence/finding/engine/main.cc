@@ -2,10 +2,11 @@
 // and called by equivalence/hold --find, with a graph that Python wrote, and prints what Python reads: a word and
 // numbers on a line.
 //
-//     find GRAPH SEED CYCLES SECONDS
+//     find GRAPH SEED CYCLES SECONDS GOES_ON [CHANGE..]
 //
-// CYCLES is for how many clock cycles of 512 lanes it plays; SECONDS the time limit of the proof. The status is 4 if
-// outputs differ.
+// CYCLES is for how many clock cycles of 512 lanes it plays; SECONDS the time limit of the proof; GOES_ON is 1 if guesses
+// are to be proved even if an output is refuted. With CHANGE.., what was learned of the design without a change is tried with
+// each of these. The status is 4 if outputs differ.
 
 #include <cstdio>
 #include <cstdlib>
@@ -18,7 +19,7 @@
 
 namespace find {
 
-constexpr std::size_t MOST = 128;  // states of a kind
+constexpr std::size_t MOST = 48;  // states of a kind
 constexpr int EVERY = 4;           // clock cycles between samples
 constexpr int ROUNDS = 3;
 
@@ -81,8 +82,92 @@ std::vector<Guess> refuted(const Graph &graph, const Conditions &conditions, con
     return gone;
 }
 
+// In how many bit times of a play the circuit has the phase, place and role of a state; and in how many of these the
+// design's registers are as in it, too.
+class Reaching {
+public:
+    Reaching(const Graph &graph, const std::string &state) {
+        std::vector<char> value(graph.gates.size(), '?');
+        std::size_t at = 0;
+        for (const Register &held : play::registers_of(graph, "registers")) value[held.signal] = state[at++];
+        int phase = 0;
+        const Literals &phases = graph.list("phase");
+        for (std::size_t place = 0; place < phases.size(); place++)
+            phase |= (value[phases[place] >> 1] == '1') << place;
+        for (const char *name : {"phase", "sender", phase == STUFFED_PART ? "count" : "place"})
+            for (const Literal literal : graph.list(name)) take(circuit, literal, value);
+        for (const int signal : graph.list("design")) take(design, 2 * signal, value);
+    }
+
+    void count(const Program &program, const Lanes &which) {
+        Lanes left = which;
+        for (const Literal literal : circuit) left &= program.value(literal);
+        there += play::count(left);
+        for (const Literal literal : design) left &= program.value(literal);
+        same += play::count(left);
+    }
+    void print(int state) const {
+        std::printf("chain %d %lld %lld\n", state, static_cast<long long>(there), static_cast<long long>(same));
+    }
+
+private:
+    static constexpr int STUFFED_PART = 2;
+
+    static void take(Literals &to, Literal literal, const std::vector<char> &value) {
+        const char held = value[literal >> 1];
+        if (held != '?') to.push_back(literal ^ (held == '0'));
+    }
+
+    Literals circuit, design;  // that are 1 in the state
+    std::int64_t there = 0, same = 0;
+};
+
+void print_chain(const Graph &graph, const Proving &proving, std::uint64_t seed, std::int64_t cycles) {
+    const std::vector<int> chain = proving.chain();
+    std::vector<Reaching> reaching;
+    for (const int at : chain) reaching.emplace_back(graph, proving.refuting()[at].registers);
+    play::Playing playing(graph, {seed, 0});
+    playing.watch([&](const Program &program, const Lanes &which, std::int64_t) {
+        for (Reaching &one : reaching) one.count(program, which);
+    });
+    playing.run(1e9, cycles);
+    for (std::size_t at = 0; at < chain.size(); at++) reaching[at].print(chain[at]);
+}
+
 void print_guess(const char *word, const Guess &guess) {
     std::printf("%s %d %d %d\n", word, guess.condition, guess.target, guess.literal);
+}
+
+// The guesses that hold after a reset.
+std::vector<Guess> after_reset(const Graph &graph, const Conditions &conditions, const std::vector<Guess> &guesses,
+                               int change, double seconds) {
+    Proving proving(graph, conditions, guesses, {true, false, change});
+    proving.run(true, true, seconds);
+    std::vector<Guess> kept;
+    for (std::size_t at = 0; at < proving.all().size(); at++)
+        if (proving.is_alive(at)) kept.push_back(proving.all()[at]);
+    return kept;
+}
+
+// For each of some changes of the design, which the play did not have: where the proof fails. The line has the number of
+// the change, that of the output, the state by which what excludes it was given up, and the first guess that was.
+void prove_changes(const Graph &graph, const Conditions &conditions, const std::vector<Guess> &guesses,
+                   const std::vector<int> &changes, double seconds) {
+    for (const int change : changes) {
+        Proving step(graph, conditions, after_reset(graph, conditions, guesses, change, seconds), {false, false, change});
+        const bool is_done = step.run(false, false, seconds);
+        const std::vector<int> chain = step.chain();
+        if (chain.empty()) {
+            std::printf("change %d %s\n", change, is_done ? "proved" : "undecided");
+        } else {
+            const Refuting &first = step.refuting()[chain.back()], &last = step.refuting()[chain.front()];
+            const int at = first.gone.front() - static_cast<int>(graph.list("same").size());
+            const Guess none{-1, 0, 0}, &guess = at < 0 ? none : step.all()[at];
+            std::printf("change %d %d %s %d %d %d\n", change, last.gone.front(), first.registers.c_str(),
+                        guess.condition, guess.target, guess.literal);
+        }
+        std::fflush(stdout);
+    }
 }
 
 // The first of the guesses about each register under each condition.
@@ -95,7 +180,8 @@ std::vector<Guess> first_of_each(const std::vector<Guess> &guesses) {
 }
 
 // False if outputs differ.
-bool find(Graph graph, std::uint64_t seed, std::int64_t cycles, double seconds) {
+bool find(Graph graph, std::uint64_t seed, std::int64_t cycles, double seconds, bool goes_on,
+          const std::vector<int> &changes) {
     const double begun = play::now_in_seconds();
     bool is_different = false;
     Samples samples = sampled(graph, seed, cycles, is_different);
@@ -103,12 +189,13 @@ bool find(Graph graph, std::uint64_t seed, std::int64_t cycles, double seconds) 
     std::printf("samples %zu %zu\n", samples.size(), samples.number_of_kinds());
     print("played", begun);
     Conditions conditions(graph);
-    std::vector<Guess> guesses, dead;
+    std::vector<Guess> guesses, dead, known;
     for (int round = 0; round < ROUNDS; round++) {
+        samples.sort();
         Guessing guessing(graph, conditions, samples);
-        guesses = guessing.all(dead);
-        const std::vector<Guess> ranges = guessing.ranges(graph);
-        guesses.insert(guesses.begin(), ranges.begin(), ranges.end());
+        known = guessing.all(dead, known);
+        guesses = guessing.ranges(graph);
+        guesses.insert(guesses.end(), known.begin(), known.end());
         print("guessed", begun);
         const std::vector<Guess> gone = refuted(graph, conditions, guesses, seed + 1 + round, cycles / 4, samples);
         std::fprintf(stderr, "          %zu guesses, %zu refuted by play\n", guesses.size(), gone.size());
@@ -117,16 +204,18 @@ bool find(Graph graph, std::uint64_t seed, std::int64_t cycles, double seconds) 
         if (gone.empty()) break;
     }
     std::printf("guesses %zu\n", guesses.size());
-    // after a reset
-    Proving after_reset(graph, conditions, guesses, true);
-    after_reset.run(true, seconds);
-    std::vector<Guess> kept;
-    for (std::size_t at = 0; at < after_reset.all().size(); at++)
-        if (after_reset.is_alive(at)) kept.push_back(after_reset.all()[at]);
+    const std::vector<int> &limits = graph.list("limits");
+    for (std::size_t at = 0; at + 2 < limits.size(); at += 3)
+        std::printf("limit %d %d %d\n", limits[at], limits[at + 1], limits[at + 2]);
+    if (!changes.empty()) {
+        prove_changes(graph, conditions, guesses, changes, seconds);
+        return true;
+    }
+    std::vector<Guess> kept = after_reset(graph, conditions, guesses, 0, seconds);
     std::fprintf(stderr, "          %zu hold after a reset\n", kept.size());
     print("reset", begun);
-    Proving step(graph, conditions, kept, false);
-    const bool is_done = step.run(false, seconds);
+    Proving step(graph, conditions, kept, {});
+    const bool is_done = step.run(false, goes_on, seconds);
     const Proving::Counts &counts = step.counts();
     std::printf("asked %lld %lld %lld\n", static_cast<long long>(counts.questions),
                 static_cast<long long>(counts.answered), static_cast<long long>(counts.gone));
@@ -149,7 +238,7 @@ bool find(Graph graph, std::uint64_t seed, std::int64_t cycles, double seconds) 
     std::vector<char> standing;
     for (std::vector<Guess> *some : {&kept_alone, &proved}) {
         if (!is_equal) break;
-        Proving again(graph, conditions, *some, false, true);
+        Proving again(graph, conditions, *some, {false, true, 0});
         const bool is_reduced = again.reduce(seconds);
         print(is_reduced ? "reduced" : "not reduced", begun);
         if (!is_reduced) continue;
@@ -160,28 +249,29 @@ bool find(Graph graph, std::uint64_t seed, std::int64_t cycles, double seconds) 
     for (std::size_t at = 0; at < proved.size(); at++)
         print_guess(!standing.empty() && standing[at] ? "needed" : "left", proved[at]);
     for (const Refuting &state : step.refuting()) {
-        std::printf("state %s", state.registers.c_str());
+        std::printf("state %s %d", state.registers.c_str(), state.earlier);
         for (const int at : state.gone) std::printf(" %d", at);
         std::printf("\n");
     }
+    if (!is_equal) print_chain(graph, step, seed, cycles / 4);
     for (const Guess &guess : all) print_guess("guess", guess);
-    const std::vector<int> &limits = graph.list("limits");
-    for (std::size_t at = 0; at + 2 < limits.size(); at += 3)
-        std::printf("limit %d %d %d\n", limits[at], limits[at + 1], limits[at + 2]);
     return true;
 }
 
 }  // namespace find
 
 int main(int count, char **words) {
-    if (count != 5) {
-        std::fprintf(stderr, "usage: find GRAPH SEED CYCLES SECONDS\n");
+    if (count < 6) {
+        std::fprintf(stderr, "usage: find GRAPH SEED CYCLES SECONDS GOES_ON [CHANGE..]\n");
         return 2;
     }
     try {
         const play::Graph graph(words[1]);
         const std::uint64_t seed = std::strtoull(words[2], nullptr, 10);
-        if (!find::find(graph, seed, std::atoll(words[3]), std::atof(words[4]))) return 4;
+        std::vector<int> changes;
+        for (int at = 6; at < count; at++) changes.push_back(std::atoi(words[at]));
+        const bool goes_on = words[5][0] == '1';
+        if (!find::find(graph, seed, std::atoll(words[3]), std::atof(words[4]), goes_on, changes)) return 4;
     } catch (const std::exception &fault) {
         std::fprintf(stderr, "%s\n", fault.what());
         return 3;

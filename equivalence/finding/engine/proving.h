@@ -72,6 +72,7 @@ public:
                 made[signal] = signal != 0 && frame == 0 && resets;
             } else {
                 made[signal] = next[signal] >= 0 && frame > 0 ? of(frame - 1, next[signal]) : gates.fresh();
+                if (next[signal] < 0 && frame == 0) inputs.push_back(made[signal] >> 1);
             }
         }
         return made[literal >> 1] ^ (literal & 1);
@@ -110,6 +111,29 @@ public:
         for (const int one : numbers_of) solver.add(one);
         solver.add(0);
     }
+    // All signals in the solution, each in 64 ways: in the first one as it is, in the others some inputs of the first bit
+    // time differ.
+    std::vector<Word> variations(play::Dice &dice) {
+        std::vector<Word> made(gates.gates.size(), 0);
+        for (std::size_t signal = 1; signal < made.size(); signal++)
+            if (!gates.gates[signal].is_gate()) {
+                const Literal literal = 2 * static_cast<Literal>(signal);
+                made[signal] = -Word(is_known(literal) ? value(literal) : dice.one_in(2));
+            }
+        for (const int signal : inputs) made[signal] ^= dice.next() & dice.next() & ~Word{1};
+        for (std::size_t signal = 1; signal < made.size(); signal++) evaluate(made, signal);
+        return made;
+    }
+    // Adds the gates that are new.
+    void extend(std::vector<Word> &words) const {
+        for (std::size_t signal = words.size(); signal < gates.gates.size(); signal++) {
+            words.push_back(0);
+            evaluate(words, signal);
+        }
+    }
+    static Word word_of(const std::vector<Word> &words, Literal literal) {
+        return words[literal >> 1] ^ -Word(literal & 1);
+    }
     bool value(Literal literal) {
         const int one = signed_number(literal);
         return (solver.val(std::abs(one)) > 0) == (one > 0);
@@ -122,18 +146,24 @@ public:
     Gates gates;
 
 private:
+    void evaluate(std::vector<Word> &words, std::size_t signal) const {
+        if (const Gate gate = gates.gates[signal]; gate.is_gate())
+            words[signal] = word_of(words, gate.a) & word_of(words, gate.b);
+    }
     int signed_number(Literal literal) const { return literal & 1 ? -numbers[literal >> 1] : numbers[literal >> 1]; }
 
     const Graph &graph;
     bool resets;
-    std::vector<int> next, frames[2], numbers;
+    std::vector<int> next, frames[2], numbers, inputs;
     int variables = 1;
 };
 
-// A state before a bit time after which some guesses don't hold, as the values of registers: '?' is any.
+// A state before a bit time after which some guesses don't hold, as the values of registers: '?' is any. `earlier` is
+// the number of a state by which a guess was given up that this one doesn't meet; -1 if it meets all that there were.
 struct Refuting {
     std::string registers;
     std::vector<int> gone;
+    int earlier;
 };
 
 class Proving {
@@ -142,13 +172,20 @@ public:
         std::int64_t questions = 0, answered = 0, gone = 0;
     };
 
+    // What is asked: after a reset, or after any state that the guesses allow; with finer groups of guesses; of the design
+    // with a change.
+    struct Query {
+        bool resets = false, fine = false;
+        int change = 0;
+    };
+
     // The guesses after `outputs` places are those about registers; the ones before are the compared outputs.
-    Proving(const Graph &graph, const Conditions &conditions, const std::vector<Guess> &given_guesses, bool resets,
-            bool fine = false)
+    Proving(const Graph &graph, const Conditions &conditions, const std::vector<Guess> &given_guesses,
+            const Query &query)
         : graph(graph),
           conditions(conditions),
-          resets(resets),
-          fine(fine),
+          resets(query.resets),
+          fine(query.fine),
           unrolled(graph, resets),
           own(graph.list("own").begin(), graph.list("own").end()) {
         const Literals &pairs = graph.list("partners");
@@ -156,10 +193,15 @@ public:
             kinds[pairs[at] >> 1] = pairs[at + 1];
         const Literals &same = graph.list("same"), &given = graph.list("given");
         for (const Literal literal : given) {
-            unrolled.require(unrolled.of(0, literal));
-            unrolled.require(unrolled.of(1, literal));
+            required.push_back(unrolled.of(0, literal));
+            required.push_back(unrolled.of(1, literal));
         }
-        if (!resets) unrolled.require(unrolled.of(0, graph.number("legal")));
+        if (!resets) required.push_back(unrolled.of(0, graph.number("legal")));
+        const std::vector<int> &changes = graph.list("changes");
+        for (std::size_t at = 0; at < changes.size(); at++)
+            for (const int frame : {0, 1})
+                required.push_back(unrolled.of(frame, 2 * changes[at]) ^ !(query.change >> at & 1));
+        for (const Literal literal : required) unrolled.require(literal);
         outputs = same.size();
         const std::vector<int> &held = graph.list("held");
         for (std::size_t at = 0; at < same.size(); at++) {
@@ -170,6 +212,8 @@ public:
             else  // it depends on the inputs of its bit time, and is asked about in the first one
                 put(which, 0, resets ? 0 : unrolled.of(0, differs));
         }
+        const std::vector<int> &asked = graph.list("asked_conditions");
+        always_asked.insert(asked.begin(), asked.end());
         const std::vector<int> &words = graph.list("words");
         for (std::size_t at = 0; at + 1 < words.size(); at += 2) word_of[words[at]] = words[at + 1];
         for (const Guess &guess : given_guesses) add(guess);
@@ -182,7 +226,8 @@ public:
     bool reduce(double seconds) {
         const double end = play::now_in_seconds() + seconds;
         is_reducing = true;
-        for (std::size_t at = 0; at < outputs; at++) need(static_cast<int>(at));
+        for (std::size_t at = 0; at < members.size(); at++)
+            if (is_asked(at)) need(static_cast<int>(at));
         for (std::size_t at = 0; at < queue.size(); at++) {
             const int which = queue[at];
             is_queued[which] = 0;
@@ -201,13 +246,15 @@ public:
         return true;
     }
 
-    // Proves the outputs, then what their proofs depend on, and so on; or all guesses. False if time is up.
-    bool run(bool everything, double seconds) {
+    // Proves the outputs, then what their proofs depend on, and so on; or all guesses. Without `goes_on` it ends when an
+    // output is refuted. False if time is up.
+    bool run(bool everything, bool goes_on, double seconds) {
         const double end = play::now_in_seconds() + seconds;
         for (std::size_t at = 0; at < members.size(); at++)
-            if (everything || at < outputs) need(static_cast<int>(at));
+            if (everything || is_asked(at)) need(static_cast<int>(at));
         for (std::size_t at = 0; at < queue.size(); at++) {
             if (play::now_in_seconds() > end) return false;
+            if (is_lost && !goes_on) return true;
             const int which = queue[at];
             is_queued[which] = 0;
             while (!prove(which)) {}
@@ -222,6 +269,16 @@ public:
     const Counts &counts() const { return tally; }
     const std::vector<Refuting> &refuting() const { return states; }
 
+    // From the first state that refutes an output, the states by which what excludes it was given up, one by one. The last
+    // one meets all guesses that there were.
+    std::vector<int> chain() const {
+        std::vector<int> made;
+        int at = 0;
+        while (at < static_cast<int>(states.size()) && states[at].gone.front() >= static_cast<int>(outputs)) at++;
+        for (; at >= 0 && at < static_cast<int>(states.size()); at = states[at].earlier) made.push_back(at);
+        return made;
+    }
+
     // What was asked about and is proved, whether the outputs are or not.
     std::vector<char> holding() const {
         std::vector<char> made;
@@ -234,11 +291,13 @@ public:
     std::vector<char> standing() const {
         std::vector<char> in(members.size(), 0);
         std::vector<int> waiting;
-        for (std::size_t at = 0; at < outputs; at++) waiting.push_back(static_cast<int>(at));
+        for (std::size_t at = 0; at < members.size(); at++)
+            if (is_asked(at)) waiting.push_back(static_cast<int>(at));
         while (!waiting.empty()) {
             const int one = waiting.back();
             waiting.pop_back();
-            if (in[one]++) continue;
+            if (in[one]) continue;
+            in[one] = 1;
             waiting.insert(waiting.end(), core[one].begin(), core[one].end());
         }
         std::vector<char> made;
@@ -247,15 +306,20 @@ public:
     }
 
 private:
-    static constexpr std::size_t STATES = 2000;
     static constexpr int DEAD = -1;
+
+    // Outputs, and what the user of the learner has guessed.
+    bool is_asked(std::size_t which) const {
+        const std::size_t first = static_cast<std::size_t>(members[which].front());
+        return which < outputs || always_asked.count(guesses[first - outputs].condition);
+    }
 
     // Adds what is never to hold, in the first bit time and after it, to a group.
     void put(int which, Literal first, Literal second) {
         if (static_cast<std::size_t>(which) == members.size()) {
             members.push_back({});
             core.push_back({});
-            for (std::vector<char> *flags : {&proved, &needed, &is_queued, &likely}) flags->push_back(0);
+            for (std::vector<char> *flags : {&proved, &needed, &is_queued, &likely, &needs_more}) flags->push_back(0);
             armed.push_back(0);
         }
         members[which].push_back(static_cast<int>(alive.size()));
@@ -263,6 +327,7 @@ private:
         after.push_back(second);
         group.push_back(which);
         alive.push_back(1);
+        given_up_by.push_back(-1);
         if (first > 1) unrolled.number(first);
         if (second > 1) unrolled.number(second);
     }
@@ -321,10 +386,12 @@ private:
         const int asked = unrolled.variable();
         clause.insert(clause.begin(), -asked);
         unrolled.clause(clause);
-        // first under what is likely to be needed, then under all
+        // first under what is likely to be needed, unless that was too little before; then under all
         bool is_refuted = true;
         for (const bool all : {false, true}) {
             if (!is_refuted || (all && is_reducing)) break;
+            if (!all && !is_reducing && needs_more[which]) continue;
+            needs_more[which] = all;
             tally.questions++;
             for (std::size_t at = 0; at < armed.size(); at++)
                 if (armed[at] && (needed[at] || (!is_reducing && (all || likely[at]))))
@@ -359,20 +426,28 @@ private:
         tally.answered++;
         std::vector<int> gone;
         std::vector<char> is_hit(members.size(), 0);
+        std::vector<Word> words = unrolled.variations(dice);
+        Word lanes = ~Word{0};
+        for (const Literal literal : required) lanes &= Unrolled::word_of(words, literal);
         for (std::size_t at = 0; at < alive.size(); at++) {
             const int of = group[at];
-            const bool is_asked = of == which || (at >= outputs && needed[of]);
-            if (!alive[at] || !is_asked || !after[at] || !unrolled.value(after[at])) continue;
+            const bool is_meant = of == which || (at >= outputs && needed[of]);
+            if (!alive[at] || !is_meant || !(Unrolled::word_of(words, after[at]) & (at < outputs ? 1 : lanes))) continue;
             gone.push_back(static_cast<int>(at));
             is_hit[of] = 1;
         }
-        if (states.size() < STATES) states.push_back({state(), gone});
-        for (const int at : gone) alive[at] = 0;
+        states.push_back({state(), gone, earlier()});
+        for (const int at : gone) {
+            alive[at] = 0;
+            given_up_by[at] = static_cast<int>(states.size()) - 1;
+            is_lost |= static_cast<std::size_t>(at) < outputs;
+        }
         tally.gone += static_cast<std::int64_t>(gone.size());
         proved[which] = 0;
         std::vector<Guess> weaker;
         for (const int at : gone)
-            if (static_cast<std::size_t>(at) >= outputs) weaken(guesses[at - outputs], weaker);
+            if (static_cast<std::size_t>(at) >= outputs)
+                weaken(guesses[at - outputs], words, Unrolled::word_of(words, after[at]) & lanes, weaker);
         for (const Guess &guess : weaker) {
             const std::size_t of = add(guess);
             is_hit.resize(members.size(), 0);
@@ -391,15 +466,17 @@ private:
                 }
     }
 
-    // The guess under the finer conditions that the state found does not meet after its bit time.
-    void weaken(const Guess &guess, std::vector<Guess> &made) {
+    // The guess under the finer conditions that are not met after the bit times in which it is refuted, which are lanes
+    // of `words`.
+    void weaken(const Guess &guess, std::vector<Word> &words, Word refuting, std::vector<Guess> &made) {
         for (const int finer : conditions.finer(guess.condition)) {
             const Guess weaker{finer, guess.target, guess.literal};
             if (!conditions.is_met(finer)) continue;
             if (!known.insert({{finer, guess.target, guess.literal}, DEAD}).second) continue;
             const Literal condition = unrolled.of(1, conditions.literal(finer));
-            if (condition == 1 || (condition > 1 && unrolled.is_known(condition) && unrolled.value(condition)))
-                weaken(weaker, made);
+            unrolled.extend(words);
+            if (const Word met = Unrolled::word_of(words, condition) & refuting)
+                weaken(weaker, words, met, made);
             else if (!is_implied(weaker))
                 made.push_back(weaker);
         }
@@ -411,6 +488,16 @@ private:
             if (found != known.end() && found->second != DEAD && alive[found->second]) return true;
         }
         return false;
+    }
+
+    // The first state by which a guess was given up that the state found does not meet.
+    int earlier() {
+        int made = -1;
+        for (std::size_t at = outputs; at < alive.size(); at++)
+            if (given_up_by[at] >= 0 && (made < 0 || given_up_by[at] < made) && before[at] > 1 &&
+                unrolled.value(before[at]))
+                made = given_up_by[at];
+        return made;
     }
 
     std::string state() {
@@ -425,20 +512,22 @@ private:
     const Graph &graph;
     const Conditions &conditions;
     std::vector<Guess> guesses;
-    bool resets, fine, is_reducing = false;
+    bool resets, fine, is_reducing = false, is_lost = false;
     Unrolled unrolled;
     std::size_t outputs = 0;
-    std::unordered_set<int> own;
+    std::unordered_set<int> own, always_asked;
     std::unordered_map<int, int> kinds;
     std::unordered_map<int, int> word_of;
     std::map<std::array<int, 3>, int> groups;
     std::map<std::array<int, 3>, int> known;  // with the place of a guess, if it was made
     std::vector<Literal> before, after;  // that a guess doesn't hold, in the first and in the second bit time
     std::vector<std::vector<int>> members, core;
-    std::vector<int> group, armed, queue, costs;
+    std::vector<int> group, armed, queue, costs, given_up_by;
     std::vector<char> violated;
-    std::vector<char> alive, proved, needed, is_queued, likely;
+    std::vector<char> alive, proved, needed, is_queued, likely, needs_more;
     Counts tally;
+    Literals required;  // assumptions, and that the circuit's state is legal
+    play::Dice dice{3};
     std::vector<Refuting> states;
 };
 

@@ -1,6 +1,7 @@
 // States that a play has reached: at most a number of each kind, where a kind is the value of some literals.
 #pragma once
 
+#include <algorithm>
 #include <cstdint>
 #include <unordered_map>
 #include <vector>
@@ -30,24 +31,33 @@ public:
         std::vector<Lanes> bits;
         for (const Literal literal : key) bits.push_back(program.value(literal));
         play::each(which, [&](int lane) {
-            Word kind = 0;
-            for (std::size_t at = 0; at < bits.size(); at++) kind |= Word{play::has(bits[at], lane)} << at;
+            const Word kind = kind_of(bits, lane);
             Kind &of = kinds[kind];
             const std::size_t seen = of.seen++;
             if (of.rows.size() < most) {
                 of.rows.push_back(rows.size());
-                rows.push_back(row(program, lane));
+                rows.push_back({kind, row(program, lane)});
             } else if (const Word at = dice.next() % (seen + 1); at < most) {
-                rows[of.rows[at]] = row(program, lane);
+                rows[of.rows[at]].values = row(program, lane);
             }
         });
     }
 
-    void add(const Program &program, int lane) { rows.push_back(row(program, lane)); }
+    void add(const Program &program, int lane) {
+        std::vector<Lanes> bits;
+        for (const Literal literal : key) bits.push_back(program.value(literal));
+        rows.push_back({kind_of(bits, lane), row(program, lane)});
+    }
+
+    // States of a kind are next to one another: so those that meet a condition are in few words of 64.
+    void sort() {
+        std::stable_sort(rows.begin(), rows.end(), [](const Row &a, const Row &b) { return a.kind < b.kind; });
+        kinds.clear();
+    }
 
     std::size_t size() const { return rows.size(); }
     std::size_t number_of_kinds() const { return kinds.size(); }
-    bool value(std::size_t at, std::size_t held) const { return rows[at][held / 64] >> held % 64 & 1; }
+    bool value(std::size_t at, std::size_t held) const { return rows[at].values[held / 64] >> held % 64 & 1; }
     const std::vector<Register> &held() const { return registers; }
 
 private:
@@ -55,7 +65,16 @@ private:
         std::size_t seen = 0;
         std::vector<std::size_t> rows;
     };
+    struct Row {
+        Word kind;
+        std::vector<Word> values;
+    };
 
+    static Word kind_of(const std::vector<Lanes> &bits, int lane) {
+        Word made = 0;
+        for (const Lanes &bit : bits) made = made << 1 | Word{play::has(bit, lane)};
+        return made;
+    }
     std::vector<Word> row(const Program &program, int lane) const {
         std::vector<Word> made((registers.size() + 63) / 64, 0);
         for (std::size_t at = 0; at < registers.size(); at++)
@@ -68,7 +87,7 @@ private:
     std::size_t most;
     Dice dice;
     std::unordered_map<Word, Kind> kinds;
-    std::vector<std::vector<Word>> rows;
+    std::vector<Row> rows;
 };
 
 // The values of all signals in the samples. Inputs are 0: what depends on one means nothing.
