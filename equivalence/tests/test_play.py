@@ -266,9 +266,11 @@ endmodule
 class Drafts(Files):
     def test_ports_by_name_and_width(self) -> None:
         ports = [Port("rst_n", 1, True), Port("can_rx", 1, True), Port("can_tx", 1, False), Port("tec", 16, False)]
-        match = matched([*ports, Port("tx_id", 29, True)], read_circuit(written(controller(), MODULE, ""), "circuit.v"))
+        ports += [Port("tx_id", 29, True), Port("rst_integrate", 1, True), Port("ovl_num", 2, True)]
+        match = matched(ports, read_circuit(written(controller(), MODULE, ""), "circuit.v"))
         self.assertEqual({name: it.name for name, it in match.outputs.items()}, {"drive": "can_tx"})
         names = {"reset": "rst_n", "bus": "can_rx", "wait_identifier": "tx_id"}
+        names |= {"integrating": "rst_integrate", "overload_count": "ovl_num"}
         self.assertEqual({name: it.name for name, it in match.inputs.items()}, names)
         self.assertEqual([it.name for it in match.others], ["tec"])
 
