@@ -223,6 +223,7 @@ class Learning(Model):
         made = self.lists([])
         made |= {
             "key": self.key(),
+            "watched": [self.is_after_bus_off()],
             "conditions": [it.literal for it in conditions],
             "coarser": flat(self.conditions.coarser()),
             "only": flat(it.only for it in conditions),
@@ -277,6 +278,11 @@ class Learning(Model):
         event = [*words[f"{EARLIER}{EVENT}"], gates.all(*(it ^ 1 for it in words[f"{CLOCK_AGO}{EVENT}"]))]
         differs = gates.both(*words[f"{PREFIX}in_frame"], *words[f"{PREFIX}crc_differs"])
         return [*words["gates.phase"], *at, *words["gates.sender"], extended, *words["gates.first"], *event, differs]
+
+    def is_after_bus_off(self) -> int:
+        """Whether the event a clock cycle ago was that of bus-off or of its end, which are rare."""
+        code = self.words[f"{CLOCK_AGO}{EVENT}"]
+        return self.gates.all(code[3], code[2] ^ 1, code[1])
 
     def write_to_learn(self, path: pathlib.Path) -> None:
         """Writes the file that the learner reads."""

@@ -20,7 +20,7 @@
 namespace find {
 
 constexpr std::size_t MOST = 48;  // states of a kind
-constexpr int EVERY = 4;           // clock cycles between samples
+constexpr int EVERY = 4;  // clock cycles between samples, except of rare states
 constexpr int ROUNDS = 3;
 
 void print(const char *word, double begun) {
@@ -30,8 +30,9 @@ void print(const char *word, double begun) {
 Samples sampled(const Graph &graph, std::uint64_t seed, std::int64_t cycles, bool &is_different) {
     Samples made(graph, MOST);
     play::Playing playing(graph, {seed, 0});
+    const Literal rare = graph.number("watched");
     playing.watch([&](const Program &program, const Lanes &which, std::int64_t cycle) {
-        if (cycle % EVERY == 0) made.take(program, which);
+        made.take(program, cycle % EVERY == 0 ? which : which & program.value(rare));
     });
     playing.run(1e9, cycles);
     is_different = playing.difference().lane >= 0;
