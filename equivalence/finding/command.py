@@ -156,7 +156,7 @@ class Finding:
             show([f"given up: {'; '.join(said)}", f"  before: {state(before(model, text), 0)}"])
             if there >= 0:
                 show([f"  played: {number(there)} bit times of this phase, {number(same)} with these registers"])
-        note = "What follows is left of the guesses of equivalence/hold --find: it is not proved."
+        note = "What follows is left of the guesses of equivalence/hold --find. It doesn't prove the outputs."
         self.write(self.text(model, found.left, found, note))
         lost = [name for name, is_proved in zip(names, found.outputs) if not is_proved]
         show([f"not proved: {', '.join(lost) or 'time is up'}; no difference was found either"])

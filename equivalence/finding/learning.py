@@ -19,7 +19,10 @@ REGISTER, WIDE, KNOWN, GATE, LATE, OF_WIRING, OF_DESIGN = range(7)
 ANYWHERE, IN_FRAME, AT_TRANSMITTER = range(3)  # where a word of the circuit means something
 WIDE_WORDS = ("gates.heard", "gates.own", "gates.heard_check")
 OF_FRAME = ("heard", "heard_count", "heard_last", "heard_run", "heard_check")
-OF_TRANSMITTER = ("own", "identifier_", "data_to", "data_left", "frame_", "present_drive", "sent", "later_", "read", "next_drive")
+OF_TRANSMITTER = (
+    *("own", "identifier_", "data_to", "data_left", "frame_"),
+    *("present_drive", "sent", "later_", "read", "next_drive"),
+)
 ANY_TIME = ("minus_", "in_", "after_part", "field")
 WIDE_BITS = 16
 RECORD_BITS = 128  # a word with more is a record, whose bits have nothing in common

@@ -4,9 +4,9 @@
 //
 //     find GRAPH SEED CYCLES SECONDS GOES_ON [CHANGE..]
 //
-// CYCLES is for how many clock cycles of 512 lanes it plays; SECONDS the time limit of the proof; GOES_ON is 1 if guesses
-// are to be proved even if an output is refuted. With CHANGE.., what was learned of the design without a change is tried with
-// each of these. The status is 4 if outputs differ.
+// CYCLES is for how many clock cycles of 512 lanes it plays; SECONDS the time limit of the proof; GOES_ON is 1 if
+// guesses are to be proved even if an output is refuted. With CHANGE.., what was learned of the design without a change
+// is tried with each of these. The status is 4 if outputs differ.
 
 #include <cstdio>
 #include <cstdlib>
@@ -150,12 +150,13 @@ std::vector<Guess> after_reset(const Graph &graph, const Conditions &conditions,
     return kept;
 }
 
-// For each of some changes of the design, which the play did not have: where the proof fails. The line has the number of
-// the change, that of the output, the state by which what excludes it was given up, and the first guess that was.
+// For each of some changes of the design, which the play did not have: where the proof fails. The line has the number
+// of the change, that of the output, the state by which what excludes it was given up, and the first guess that was.
 void prove_changes(const Graph &graph, const Conditions &conditions, const std::vector<Guess> &guesses,
                    const std::vector<int> &changes, double seconds) {
     for (const int change : changes) {
-        Proving step(graph, conditions, after_reset(graph, conditions, guesses, change, seconds), {false, false, change});
+        const std::vector<Guess> kept = after_reset(graph, conditions, guesses, change, seconds);
+        Proving step(graph, conditions, kept, {false, false, change});
         const bool is_done = step.run(false, false, seconds);
         const std::vector<int> chain = step.chain();
         if (chain.empty()) {

@@ -172,8 +172,8 @@ public:
         std::int64_t questions = 0, answered = 0, gone = 0;
     };
 
-    // What is asked: after a reset, or after any state that the guesses allow; with finer groups of guesses; of the design
-    // with a change.
+    // What is asked: after a reset, or after any state that the guesses allow; with finer groups of guesses; of the
+    // design with a change.
     struct Query {
         bool resets = false, fine = false;
         int change = 0;
@@ -246,8 +246,8 @@ public:
         return true;
     }
 
-    // Proves the outputs, then what their proofs depend on, and so on; or all guesses. Without `goes_on` it ends when an
-    // output is refuted. False if time is up.
+    // Proves the outputs, then what their proofs depend on, and so on; or all guesses. Without `goes_on` it ends when
+    // an output is refuted. False if time is up.
     bool run(bool everything, bool goes_on, double seconds) {
         const double end = play::now_in_seconds() + seconds;
         for (std::size_t at = 0; at < members.size(); at++)
@@ -269,8 +269,8 @@ public:
     const Counts &counts() const { return tally; }
     const std::vector<Refuting> &refuting() const { return states; }
 
-    // From the first state that refutes an output, the states by which what excludes it was given up, one by one. The last
-    // one meets all guesses that there were.
+    // From the first state that refutes an output, the states by which what excludes it was given up, one by one. The
+    // last one meets all guesses that there were.
     std::vector<int> chain() const {
         std::vector<int> made;
         int at = 0;
@@ -432,7 +432,8 @@ private:
         for (std::size_t at = 0; at < alive.size(); at++) {
             const int of = group[at];
             const bool is_meant = of == which || (at >= outputs && needed[of]);
-            if (!alive[at] || !is_meant || !(Unrolled::word_of(words, after[at]) & (at < outputs ? 1 : lanes))) continue;
+            const Word asked = at < outputs ? Word{1} : lanes;
+            if (!alive[at] || !is_meant || !(Unrolled::word_of(words, after[at]) & asked)) continue;
             gone.push_back(static_cast<int>(at));
             is_hit[of] = 1;
         }
