@@ -68,7 +68,7 @@ static void add_offer(struct scenario *scenario, const char *line)
   riddlesage_offer offer;
   int read;
 
-  require(sscanf(line, "offer %" SCNu64 " %zu %n", &offer.time, &offer.port, &read) == 2 &&
+  require(sscanf(line, "offer %" SCNu64 " %" SCNu64 " %n", &offer.time, &offer.port, &read) == 2 &&
               frame_from_text(line + read, &offer.frame),
           line);
   require(scenario->offer_count < MOST_OFFERS, "too many offers");
@@ -82,7 +82,7 @@ static void add_hit(struct scenario *scenario, const char *line)
 
   if (sscanf(line, "in %" SCNu64 " %" SCNu64, &hit.attempt, &hit.offset) == 2)
     hit.kind = RIDDLESAGE_HIT_IN;
-  else if (sscanf(line, "view %" SCNu64 " %zu", &hit.time, &hit.port) == 2)
+  else if (sscanf(line, "view %" SCNu64 " %" SCNu64, &hit.time, &hit.port) == 2)
     hit.kind = RIDDLESAGE_HIT_VIEW;
   else
     require(sscanf(line, "at %" SCNu64, &hit.time) == 1, line);

@@ -1,10 +1,10 @@
 /*
- * The memory functions that the proved archives need, over malloc, realloc and free. They are trusted: a block has at
- * least the requested size, and is aligned as its size allows, to at most 16, as malloc's blocks are.
+ * The memory functions that the proved archives need, over those of platform.h. They are trusted: a block has at least
+ * the requested size, and is aligned as its size allows, to at most 16, as malloc's blocks are.
  */
+#include "platform.h"
+
 #include <stdbool.h>
-#include <stddef.h>
-#include <stdlib.h>
 
 /* Whether there was memory, and its address, which has no meaning if not. */
 struct tried {
@@ -12,9 +12,9 @@ struct tried {
   void *at;
 };
 
-struct tried rattle_alloc(size_t size, size_t alignment);
-struct tried rattle_realloc(void *at, size_t kept, size_t size, size_t alignment);
-void rattle_dealloc(void *at);
+RIDDLESAGE_INTERNAL struct tried rattle_alloc(size_t size, size_t alignment);
+RIDDLESAGE_INTERNAL struct tried rattle_realloc(void *at, size_t kept, size_t size, size_t alignment);
+RIDDLESAGE_INTERNAL void rattle_dealloc(void *at);
 
 static struct tried tried(void *at)
 {
@@ -23,18 +23,28 @@ static struct tried tried(void *at)
   return result;
 }
 
-struct tried rattle_alloc(size_t size, size_t alignment)
+RIDDLESAGE_INTERNAL struct tried rattle_alloc(size_t size, size_t alignment)
 {
-  return tried(malloc(size != 0 ? size : alignment));
+  return tried(RIDDLESAGE_MALLOC(size != 0 ? size : alignment));
 }
 
-struct tried rattle_realloc(void *at, size_t kept, size_t size, size_t alignment)
+RIDDLESAGE_INTERNAL struct tried rattle_realloc(void *at, size_t kept, size_t size, size_t alignment)
 {
+#ifdef RIDDLESAGE_REALLOC
   (void)kept;
-  return tried(realloc(at, size != 0 ? size : alignment));
+  return tried(RIDDLESAGE_REALLOC(at, size != 0 ? size : alignment));
+#else
+  struct tried moved = rattle_alloc(size, alignment);
+
+  if (moved.given) {
+    memcpy(moved.at, at, kept < size ? kept : size);
+    RIDDLESAGE_FREE(at);
+  }
+  return moved;
+#endif
 }
 
-void rattle_dealloc(void *at)
+RIDDLESAGE_INTERNAL void rattle_dealloc(void *at)
 {
-  free(at);
+  RIDDLESAGE_FREE(at);
 }

@@ -1,38 +1,11 @@
 /*
- * The public calls over the proved functions of crates/can_c: each checks its pointers, and passes its arguments on. The
- * memory of riddlesage_port_new() is allocated and freed here. Nothing here is proved, and no rule of CAN is here.
+ * The public calls over the proved functions of crates/can_c: each checks its pointers, and passes its arguments on.
+ * The memory of riddlesage_port_new() is allocated and freed here. Nothing here is proved, and no rule of CAN is here.
  */
 #include "riddlesage.h"
 
-#include <stdbool.h>
-#include <stdlib.h>
-
-#define EXPORT __attribute__((visibility("default")))
-
-/* The proved functions. A slice is a pointer, which is not NULL, and its length. */
-uint8_t can_c_idle(struct riddlesage_handle *handle, size_t queue, size_t log);
-uint8_t can_c_joining(struct riddlesage_handle *handle, size_t queue, size_t log);
-uint8_t can_c_copy(struct riddlesage_handle *handle, struct riddlesage_handle *from);
-void can_c_free(struct riddlesage_handle *handle);
-uint8_t can_c_offer(struct riddlesage_handle *handle, const riddlesage_frame *frame);
-uint8_t can_c_hold(struct riddlesage_handle *handle, uint8_t count);
-uint8_t can_c_drive(struct riddlesage_handle *handle, uint8_t *level);
-uint8_t can_c_sample(struct riddlesage_handle *handle, uint8_t level, uint8_t *event, riddlesage_frame *frame);
-uint8_t can_c_run(struct riddlesage_handle *handle, const uint8_t *levels, size_t levels_length, uint8_t *drives,
-                  size_t drives_length, uint8_t *events, size_t events_length);
-uint8_t can_c_counters(struct riddlesage_handle *handle, uint16_t *transmit, uint16_t *receive);
-uint8_t can_c_state(struct riddlesage_handle *handle, uint8_t *state);
-uint8_t can_c_phase(struct riddlesage_handle *handle, riddlesage_standing *standing);
-uint8_t can_c_log_length(struct riddlesage_handle *handle, size_t *count);
-uint8_t can_c_missed(struct riddlesage_handle *handle, uint32_t *count);
-uint8_t can_c_entry(struct riddlesage_handle *handle, size_t number, riddlesage_frame *frame, uint8_t *sent);
-uint8_t can_c_play(struct riddlesage_handle *handles, size_t handles_length, const riddlesage_offer *offers,
-                   size_t offers_length, const riddlesage_hit *hits, size_t hits_length, uint8_t *levels,
-                   size_t levels_length, size_t *refused);
-uint8_t can_c_wire(riddlesage_wire *wire, const uint8_t *drives, size_t drives_length, const riddlesage_hit *hits,
-                   size_t hits_length, uint8_t *level, uint8_t *seen, size_t seen_length);
-uint8_t can_c_encode(const riddlesage_frame *frame, uint8_t *levels, size_t levels_length, size_t *count);
-uint8_t can_c_decode(const uint8_t *levels, size_t levels_length, riddlesage_heard *heard, size_t *place);
+#include "platform.h"
+#include "proved.h"
 
 static const riddlesage_port none = RIDDLESAGE_PORT_INIT;
 
@@ -77,7 +50,7 @@ static riddlesage_status make(riddlesage_port *port, size_t queue, size_t log,
 
 EXPORT riddlesage_port *riddlesage_port_new(void)
 {
-  riddlesage_port *port = malloc(sizeof *port);
+  riddlesage_port *port = RIDDLESAGE_MALLOC(sizeof *port);
   if (port != NULL)
     *port = none;
   return port;
@@ -87,7 +60,7 @@ EXPORT riddlesage_status riddlesage_port_delete(riddlesage_port *port)
 {
   riddlesage_status status = riddlesage_port_free(port);
   if (status == RIDDLESAGE_OK)
-    free(port);
+    RIDDLESAGE_FREE(port);
   return status;
 }
 
@@ -184,8 +157,14 @@ EXPORT riddlesage_status riddlesage_port_phase(riddlesage_port *port, riddlesage
 
 EXPORT riddlesage_status riddlesage_port_log_length(riddlesage_port *port, size_t *count)
 {
+  uint64_t length = 0;
   riddlesage_status status = port_with(port, count != NULL);
-  return status == RIDDLESAGE_OK ? (riddlesage_status)can_c_log_length(&port->handle, count) : status;
+
+  if (status == RIDDLESAGE_OK)
+    status = (riddlesage_status)can_c_log_length(&port->handle, &length);
+  if (status == RIDDLESAGE_OK)
+    *count = (size_t)length;
+  return status;
 }
 
 EXPORT riddlesage_status riddlesage_port_missed(riddlesage_port *port, uint32_t *count)
@@ -230,7 +209,8 @@ EXPORT riddlesage_status riddlesage_play(riddlesage_port *const *ports, size_t c
   static const riddlesage_hit no_hit;
   struct riddlesage_handle handles[RIDDLESAGE_MOST_PORTS];
   uint8_t no_level = 0;
-  size_t unwanted = 0, place;
+  uint64_t full = 0;
+  size_t place;
   riddlesage_status status = ports_at(ports, count);
 
   if (status != RIDDLESAGE_OK)
@@ -241,10 +221,11 @@ EXPORT riddlesage_status riddlesage_play(riddlesage_port *const *ports, size_t c
     handles[place] = ports[place]->handle;
   status = (riddlesage_status)can_c_play(handles, count, offers == NULL ? &no_offer : offers, offer_count,
                                          hits == NULL ? &no_hit : hits, hit_count,
-                                         levels == NULL ? &no_level : levels, bits,
-                                         refused == NULL ? &unwanted : refused);
+                                         levels == NULL ? &no_level : levels, bits, &full);
   for (place = 0; place < count; place++)
     ports[place]->handle = handles[place];
+  if (status == RIDDLESAGE_OK && refused != NULL)
+    *refused = (size_t)full;
   return status;
 }
 
@@ -262,18 +243,75 @@ EXPORT riddlesage_status riddlesage_wire_step(riddlesage_wire *wire, const uint8
                                        hit_count, level, seen == NULL ? &unwanted : seen, seen == NULL ? 0 : count);
 }
 
+/* Passes one bit time of a bus of ports. `happened` becomes true if a port has an event. */
+static riddlesage_status pass(riddlesage_wire *wire, riddlesage_port *const *ports, size_t count,
+                              const riddlesage_hit *hits, size_t hit_count, uint8_t *events, riddlesage_frame *frames,
+                              bool *happened)
+{
+  uint8_t drives[RIDDLESAGE_MOST_PORTS], seen[RIDDLESAGE_MOST_PORTS], level;
+  riddlesage_status status = RIDDLESAGE_OK;
+  size_t place;
+
+  for (place = 0; status == RIDDLESAGE_OK && place < count; place++)
+    status = riddlesage_port_drive(ports[place], &drives[place]);
+  if (status == RIDDLESAGE_OK)
+    status = riddlesage_wire_step(wire, drives, count, hits, hit_count, &level, seen);
+  for (place = 0; status == RIDDLESAGE_OK && place < count; place++) {
+    status = riddlesage_port_sample(ports[place], seen[place], &events[place], &frames[place]);
+    *happened |= events[place] != RIDDLESAGE_NOTHING;
+  }
+  return status;
+}
+
+EXPORT riddlesage_status riddlesage_wire_run(riddlesage_wire *wire, riddlesage_port *const *ports, size_t count,
+                                             const riddlesage_hit *hits, size_t hit_count, size_t bits, uint8_t *events,
+                                             riddlesage_frame *frames, size_t *passed)
+{
+  bool happened = false;
+  size_t done;
+  riddlesage_status status = ports_at(ports, count);
+
+  if (status != RIDDLESAGE_OK)
+    return status;
+  if (wire == NULL || (hits == NULL && hit_count != 0) || events == NULL || frames == NULL || passed == NULL)
+    return RIDDLESAGE_NULL_POINTER;
+  for (done = 0; done < bits && !happened; done++) {
+    status = pass(wire, ports, count, hits, hit_count, events, frames, &happened);
+    if (status != RIDDLESAGE_OK)
+      break;
+  }
+  if (status != RIDDLESAGE_OK && done == 0)
+    return status;
+  if (!happened)
+    memset(events, RIDDLESAGE_NOTHING, count);
+  *passed = done;
+  return RIDDLESAGE_OK;
+}
+
 EXPORT riddlesage_status riddlesage_encode(const riddlesage_frame *frame, uint8_t *levels, size_t room, size_t *count)
 {
+  uint64_t length = 0;
+  riddlesage_status status;
+
   if (frame == NULL || levels == NULL || count == NULL)
     return RIDDLESAGE_NULL_POINTER;
-  return (riddlesage_status)can_c_encode(frame, levels, room, count);
+  status = (riddlesage_status)can_c_encode(frame, levels, room, &length);
+  if (status == RIDDLESAGE_OK)
+    *count = (size_t)length;
+  return status;
 }
 
 EXPORT riddlesage_status riddlesage_decode(const uint8_t *levels, size_t count, riddlesage_heard *heard, size_t *place)
 {
+  uint64_t level = UINT64_MAX; /* it stays so if no place is returned */
+  riddlesage_status status;
+
   if (levels == NULL || heard == NULL || place == NULL)
     return RIDDLESAGE_NULL_POINTER;
-  return (riddlesage_status)can_c_decode(levels, count, heard, place);
+  status = (riddlesage_status)can_c_decode(levels, count, heard, &level);
+  if (level != UINT64_MAX)
+    *place = (size_t)level;
+  return status;
 }
 
 EXPORT const char *riddlesage_status_name(riddlesage_status status)

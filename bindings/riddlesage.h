@@ -22,9 +22,11 @@
  * @endcode
  *
  * What each call does is proved in the repository that this file belongs to, for the functions of crates/can_c that
- * these calls pass their arguments to; for riddlesage_run(), riddlesage_decode_trace() and riddlesage_decode_levels()
- * it is crates/can_page. Not proved, only tested: this header, riddlesage.c and texts.c, which check pointers and pass
- * the arguments on, and heap.c, which allocates memory.
+ * these calls pass their arguments to; for riddlesage_marks(), riddlesage_run(), riddlesage_decode_trace() and
+ * riddlesage_decode_levels() it is crates/can_page. Not proved, only tested: this header, riddlesage.c and texts.c,
+ * which check pointers and pass the arguments on, the loop of riddlesage_wire_run() over other calls, coverage.c, which
+ * counts, and heap.c, which allocates memory. The library as one file of C, riddlesage_portable.c, has a translation of
+ * the proved functions, which is tested, not proved.
  *
  * Errors. A call that can fail returns a status, named below without RIDDLESAGE_. Unless it is OK, the port is as it
  * was, and nothing has been written; riddlesage_decode(), riddlesage_run(), riddlesage_decode_trace() and
@@ -44,8 +46,9 @@
  *
  * Memory. Only riddlesage_port_new(), riddlesage_port_idle(), riddlesage_port_joining(), riddlesage_port_copy(),
  * riddlesage_play(), riddlesage_run(), riddlesage_decode_trace() and riddlesage_decode_levels() allocate memory, with
- * malloc. The last four free theirs before they return: a byte for each bit time, and some for each port, offer and
- * hit. The last three also allocate 32 MiB in one block, of which they touch as much as the text needs.
+ * malloc, or with what RIDDLESAGE_MALLOC of riddlesage_portable.c names. The last four free theirs before they return:
+ * a byte for each bit time, and some for each port, offer and hit. The last three also allocate 32 MiB in one block, of
+ * which they touch as much as the text needs.
  */
 #ifndef RIDDLESAGE_H
 #define RIDDLESAGE_H
@@ -56,6 +59,13 @@
 
 /** The version of this header. The library's own is riddlesage_version(). */
 #define RIDDLESAGE_VERSION "0.9.0"
+
+/* All structs are laid out alike on all machines; on x86 of 32 bits, Linux aligns a uint64_t to four bytes only. */
+#if defined(__i386__) && defined(__GNUC__)
+#define RIDDLESAGE_LAYOUT __attribute__((aligned(8)))
+#else
+#define RIDDLESAGE_LAYOUT
+#endif
 
 #ifdef __cplusplus
 extern "C" {
@@ -187,9 +197,10 @@ typedef struct riddlesage_heard {
 
 /** A part of a riddlesage_port. Only the library uses its fields. */
 struct riddlesage_handle {
-  void *at;
-  bool live;
-};
+  uint64_t at;
+  uint8_t live;
+  uint8_t unused[7];
+} RIDDLESAGE_LAYOUT;
 
 /** A port. It must stay at the address at which it was made. */
 typedef struct riddlesage_port {
@@ -198,7 +209,7 @@ typedef struct riddlesage_port {
 } riddlesage_port;
 
 /** Initialises a riddlesage_port. */
-#define RIDDLESAGE_PORT_INIT { { NULL, false }, NULL }
+#define RIDDLESAGE_PORT_INIT { { 0, 0, { 0 } }, NULL }
 
 /** The capacity for the levels of any frame: no frame has more, stuff bits included. */
 enum { RIDDLESAGE_MOST_LEVELS = 157 };
@@ -359,9 +370,9 @@ riddlesage_status riddlesage_port_entry(riddlesage_port *port, size_t number, ri
 /** A frame that is queued at a port while the bus runs. */
 typedef struct riddlesage_offer {
   uint64_t time;          /**< the bit time before which it is queued; the first of the call is 0 */
-  size_t port;            /**< the index of the port; the first is 0 */
+  uint64_t port;          /**< the index of the port; the first is 0 */
   riddlesage_frame frame; /**< the frame */
-} riddlesage_offer;
+} RIDDLESAGE_LAYOUT riddlesage_offer;
 
 /** The kinds of injected bit errors. */
 typedef enum riddlesage_hit_kind {
@@ -379,9 +390,9 @@ typedef struct riddlesage_hit {
   uint64_t time;    /**< the bit time; the first of the call is 0 */
   uint64_t attempt; /**< the transmission attempt; the first that begins in the call is 0 */
   uint64_t offset;  /**< how many bit times after its start of frame */
-  size_t port;      /**< the index of the port; the first is 0 */
+  uint64_t port;    /**< the index of the port; the first is 0 */
   uint8_t kind;     /**< a riddlesage_hit_kind */
-} riddlesage_hit;
+} RIDDLESAGE_LAYOUT riddlesage_hit;
 
 /** The most ports that a bus may have. */
 enum { RIDDLESAGE_MOST_PORTS = 64 };
@@ -422,7 +433,7 @@ typedef struct riddlesage_wire {
   uint64_t start;     /**< the bit time in which the latest of them began; not read if there is none */
   uint8_t until_rest; /**< how many recessive levels are missing from eleven in a row, after which a dominant level
                            begins an attempt: 0 to 11 */
-} riddlesage_wire;
+} RIDDLESAGE_LAYOUT riddlesage_wire;
 
 /** Initialises a riddlesage_wire. */
 #define RIDDLESAGE_WIRE_INIT { 0, 0, 0, 0 }
@@ -442,6 +453,27 @@ typedef struct riddlesage_wire {
  */
 riddlesage_status riddlesage_wire_step(riddlesage_wire *wire, const uint8_t *drives, size_t count,
                                        const riddlesage_hit *hits, size_t hit_count, uint8_t *level, uint8_t *seen);
+
+/**
+ * Passes bit times of a bus of ports until one of them has an event, but at most `bits`. Each bit time is that of
+ * riddlesage_port_drive() for every port, riddlesage_wire_step(), and riddlesage_port_sample() for every port.
+ * @param wire the state of the bus
+ * @param ports the ports of the bus
+ * @param count how many: 1 to RIDDLESAGE_MOST_PORTS
+ * @param[in] hits the bit errors, in any order; may be NULL if there are none
+ * @param hit_count how many
+ * @param bits the most bit times
+ * @param[out] events the event of each port in the last bit time that passed, RIDDLESAGE_NOTHING if none did: `count`
+ * bytes
+ * @param[out] frames the frame of each port whose event has one: `count` frames
+ * @param[out] passed how many bit times passed: fewer than `bits` only if a port has an event, or after 2^64 - 1 of
+ * them
+ * @return OK; NULL_POINTER, BAD_BUS, or the status of the first port that cannot be used, MOVED or NO_PORT; for a wire
+ * or hits BAD_WIRE, BAD_KIND, NO_SUCH_PORT
+ */
+riddlesage_status riddlesage_wire_run(riddlesage_wire *wire, riddlesage_port *const *ports, size_t count,
+                                      const riddlesage_hit *hits, size_t hit_count, size_t bits, uint8_t *events,
+                                      riddlesage_frame *frames, size_t *passed);
 
 /**
  * Encodes a frame: the levels that its transmitter drives from the start of frame to the end of frame, with stuff bits,
@@ -466,6 +498,40 @@ riddlesage_status riddlesage_encode(const riddlesage_frame *frame, uint8_t *leve
  * FORM
  */
 riddlesage_status riddlesage_decode(const uint8_t *levels, size_t count, riddlesage_heard *heard, size_t *place);
+
+/** The field of a frame in which a level is (3.2.1). */
+typedef enum riddlesage_field {
+  RIDDLESAGE_FIELD_START_OF_FRAME = 0,   /**< start of frame */
+  RIDDLESAGE_FIELD_IDENTIFIER = 1,       /**< identifier */
+  RIDDLESAGE_FIELD_RTR_OR_SRR = 2,       /**< RTR or SRR, if the levels end before the IDE bit */
+  RIDDLESAGE_FIELD_RTR = 3,              /**< RTR */
+  RIDDLESAGE_FIELD_SRR = 4,              /**< SRR */
+  RIDDLESAGE_FIELD_IDE = 5,              /**< IDE */
+  RIDDLESAGE_FIELD_R1 = 6,               /**< reserved bit r1 */
+  RIDDLESAGE_FIELD_R0 = 7,               /**< reserved bit r0 */
+  RIDDLESAGE_FIELD_DATA_LENGTH_CODE = 8, /**< DLC */
+  RIDDLESAGE_FIELD_DATA = 9,             /**< data bytes */
+  RIDDLESAGE_FIELD_CRC_SEQUENCE = 10,    /**< CRC sequence */
+  RIDDLESAGE_FIELD_CRC_DELIMITER = 11,   /**< CRC delimiter */
+  RIDDLESAGE_FIELD_ACK_SLOT = 12,        /**< ACK slot */
+  RIDDLESAGE_FIELD_ACK_DELIMITER = 13,   /**< ACK delimiter */
+  RIDDLESAGE_FIELD_END_OF_FRAME = 14     /**< end of frame */
+} riddlesage_field;
+
+/**
+ * Names the field of each level of a frame, and its stuff bits (3.2.1, 6). It reads at most the first
+ * RIDDLESAGE_MOST_LEVELS. Levels have a field from a start of frame on, to the end of the frame, or to a wrong stuff
+ * bit; if the first level is recessive, none has.
+ * @param[in] levels the levels
+ * @param length how many there are
+ * @param[out] fields the riddlesage_field of each level: RIDDLESAGE_MOST_LEVELS bytes. A stuff bit has that of the
+ * level before it
+ * @param[out] stuffed 1 for a stuff bit, otherwise 0: RIDDLESAGE_MOST_LEVELS bytes
+ * @param[out] count how many levels have a field
+ * @return OK, NULL_POINTER, BAD_LEVEL
+ */
+riddlesage_status riddlesage_marks(const uint8_t *levels, size_t length, uint8_t *fields, uint8_t *stuffed,
+                                   size_t *count);
 
 /** The most bytes of a text that a call below writes. */
 enum { RIDDLESAGE_MOST_TEXT = 33554432 };
@@ -516,6 +582,62 @@ riddlesage_status riddlesage_decode_trace(const char *text, size_t length, char 
  */
 riddlesage_status riddlesage_decode_levels(const uint8_t *levels, size_t length, char *lines, size_t room,
                                            size_t *count, size_t *place);
+
+/** How many combinations of a rule of docs/ACCESS.md, a role and an error state can occur (docs/COVERAGE.md). */
+enum { RIDDLESAGE_COVERAGE_ITEMS = 64 };
+
+/**
+ * In how many bit times each of these combinations has occurred. Initialise it with RIDDLESAGE_COVERAGE_INIT or all
+ * bytes 0. It is a plain value, which may be read, copied, kept and added to another.
+ */
+typedef struct riddlesage_coverage {
+  uint64_t counts[RIDDLESAGE_COVERAGE_ITEMS]; /**< a number for each combination */
+} riddlesage_coverage;
+
+/** Initialises a riddlesage_coverage. */
+#define RIDDLESAGE_COVERAGE_INIT { { 0 } }
+
+/**
+ * Passes one bit time as riddlesage_port_sample() does, and counts the rules that the port applies in it. One coverage
+ * may count the bit times of several ports.
+ * @param port the port
+ * @param coverage the counts
+ * @param level RIDDLESAGE_DOMINANT or RIDDLESAGE_RECESSIVE
+ * @param[out] event the event of this bit time, a riddlesage_event
+ * @param[out] frame the frame, if the event is SENT or RECEIVED; otherwise not written; may be NULL
+ * @return OK, NULL_POINTER, MOVED, NO_PORT, BAD_LEVEL
+ */
+riddlesage_status riddlesage_coverage_sample(riddlesage_port *port, riddlesage_coverage *coverage, uint8_t level,
+                                             uint8_t *event, riddlesage_frame *frame);
+
+/**
+ * Gets the name of a combination.
+ * @param item its number, from 0 on
+ * @return its name, such as "Suspend transmission, transmitter passive", which is never freed; NULL for an undefined
+ * number
+ */
+const char *riddlesage_coverage_name(size_t item);
+
+/**
+ * Gets a case of the conformance kit in which a combination occurs.
+ * @param item its number, from 0 on
+ * @return the name of the case, such as "suspend-after-error", which is never freed; no text if none reaches it; NULL
+ * for an undefined number
+ */
+const char *riddlesage_coverage_case(size_t item);
+
+/** The capacity for a line of riddlesage_coverage_line(), in bytes. */
+enum { RIDDLESAGE_COVERAGE_LINE = 128 };
+
+/**
+ * Writes how often a combination has occurred, as a line of text: `coverage 12 Joining, receiver active`. If that is
+ * never, the line also names the case.
+ * @param[in] coverage the counts
+ * @param item its number, from 0 on
+ * @param[out] line the line, with a terminating 0 and no line end: RIDDLESAGE_COVERAGE_LINE bytes
+ * @return OK, NULL_POINTER, NO_ENTRY for an undefined number
+ */
+riddlesage_status riddlesage_coverage_line(const riddlesage_coverage *coverage, size_t item, char *line);
 
 /**
  * Gets the name of a status.

@@ -1,62 +1,64 @@
 /*
- * The public calls over the proved functions of crates/can_page, which write texts: each checks its pointers, allocates
- * a buffer for the text, and copies it. Nothing here is proved, and no rule of CAN is here.
+ * The public calls over the proved functions of crates/can_page. Each checks its pointers; one that writes a text also
+ * allocates a buffer for it, and copies it. Nothing here is proved, and no rule of CAN is here.
  */
 #include "riddlesage.h"
 
-#include <stdio.h>
-#include <stdlib.h>
-#include <string.h>
-
-#define EXPORT __attribute__((visibility("default")))
+#include "platform.h"
+#include "proved.h"
 
 /* The results of the proved functions. */
 enum { DONE = 0, FULL = 1, BAD_LEVEL = 2, BAD_SCENARIO = 6 };
 
-/* The buffer for a text. It may have any content before it is written. */
-struct lines {
-  size_t count;
-  bool full;
-  char bytes[RIDDLESAGE_MOST_TEXT];
-};
-
-/* What is wrong in a scenario: the number of the field, and its port or element if it has one. */
-struct wrong {
-  size_t number;
-  size_t element;
-  uint8_t field;
-};
-
-/* The proved functions. A slice is a pointer, which is not NULL, and its length. */
-uint8_t page_run(const char *text, size_t length, struct lines *out, struct wrong *wrong);
-uint8_t page_decode(const uint8_t *text, size_t length, struct lines *out, uint64_t *place);
-uint8_t page_decode_levels(const uint8_t *levels, size_t length, struct lines *out, uint64_t *place);
-
 /* Copies a text out, or returns only its length if the caller's buffer is too small. */
 static riddlesage_status give(const struct lines *lines, char *out, size_t room, size_t *count)
 {
-  *count = lines->count;
-  if (room < lines->count)
+  *count = (size_t)lines->count;
+  if (room < *count)
     return RIDDLESAGE_NO_ROOM;
-  memcpy(out, lines->bytes, lines->count);
+  memcpy(out, lines->bytes, *count);
   return RIDDLESAGE_OK;
 }
 
-/* The name of a field, as canbit prints it. */
+/* Writes a number in decimal, and returns the place after it. */
+static char *write_number(uint64_t number, char *out)
+{
+  char digits[20];
+  size_t count = 0;
+
+  do
+    digits[count++] = (char)('0' + number % 10);
+  while ((number /= 10) != 0);
+  while (count > 0)
+    *out++ = digits[--count];
+  return out;
+}
+
+/* The name of a field, as canbit prints it: # stands for its number, and the second one for its element. */
 static void name_field(const struct wrong *wrong, char *field)
 {
   static const char *const names[] = {
-    "toml",   "key",    "version",  "bits",  "port",  "port[%zu]", "port[%zu].key", "port[%zu].queue",
-    "port[%zu].queue[%zu]", "port[%zu].log", "port[%zu].join", "port[%zu].hold", "at", "in", "view",
-    "at[%zu]", "in[%zu]", "view[%zu]",
+    "toml", "key", "version", "bits", "port", "port[#]", "port[#].key", "port[#].queue", "port[#].queue[#]",
+    "port[#].log", "port[#].join", "port[#].hold", "at", "in", "view", "at[#]", "in[#]", "view[#]",
   };
-  snprintf(field, RIDDLESAGE_FIELD_ROOM, names[wrong->field], wrong->number, wrong->element);
+  uint64_t number = wrong->number;
+  const char *from;
+
+  for (from = names[wrong->field]; *from != '\0'; from++) {
+    if (*from != '#') {
+      *field++ = *from;
+      continue;
+    }
+    field = write_number(number, field);
+    number = wrong->element;
+  }
+  *field = '\0';
 }
 
 static riddlesage_status run(const char *text, size_t length, struct lines *lines, char *report, size_t room,
                              size_t *count, char *field)
 {
-  struct wrong wrong = { 0, 0, 0 };
+  struct wrong wrong = { 0, 0, 0, { 0 } };
 
   switch (page_run(text, length, lines, &wrong)) {
   case DONE:
@@ -81,11 +83,11 @@ EXPORT riddlesage_status riddlesage_run(const char *text, size_t length, char *r
 
   if (text == NULL || report == NULL || count == NULL)
     return RIDDLESAGE_NULL_POINTER;
-  lines = malloc(sizeof *lines);
+  lines = RIDDLESAGE_MALLOC(sizeof *lines);
   if (lines == NULL)
     return RIDDLESAGE_NO_MEMORY;
   status = run(text, length, lines, report, room, count, field);
-  free(lines);
+  RIDDLESAGE_FREE(lines);
   return status;
 }
 
@@ -120,11 +122,11 @@ static riddlesage_status decode_with_room(decoding *by, const uint8_t *trace, si
 
   if (trace == NULL || out == NULL || count == NULL)
     return RIDDLESAGE_NULL_POINTER;
-  lines = malloc(sizeof *lines);
+  lines = RIDDLESAGE_MALLOC(sizeof *lines);
   if (lines == NULL)
     return RIDDLESAGE_NO_MEMORY;
   status = decode(by, trace, length, lines, out, room, count, place);
-  free(lines);
+  RIDDLESAGE_FREE(lines);
   return status;
 }
 
@@ -138,4 +140,17 @@ EXPORT riddlesage_status riddlesage_decode_levels(const uint8_t *levels, size_t 
                                                   size_t *count, size_t *place)
 {
   return decode_with_room(page_decode_levels, levels, length, lines, room, count, place);
+}
+
+EXPORT riddlesage_status riddlesage_marks(const uint8_t *levels, size_t length, uint8_t *fields, uint8_t *stuffed,
+                                          size_t *count)
+{
+  uint64_t marked;
+
+  if (levels == NULL || fields == NULL || stuffed == NULL || count == NULL)
+    return RIDDLESAGE_NULL_POINTER;
+  if (page_marks(levels, length, fields, RIDDLESAGE_MOST_LEVELS, stuffed, RIDDLESAGE_MOST_LEVELS, &marked) != DONE)
+    return RIDDLESAGE_BAD_LEVEL;
+  *count = (size_t)marked;
+  return RIDDLESAGE_OK;
 }

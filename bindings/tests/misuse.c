@@ -11,7 +11,7 @@ static riddlesage_frame frame, reported;
 static riddlesage_heard heard;
 static riddlesage_standing standing;
 static uint8_t level, event, state, sent, levels[RIDDLESAGE_MOST_LEVELS], drives[RIDDLESAGE_MOST_LEVELS],
-    events[RIDDLESAGE_MOST_LEVELS];
+    events[RIDDLESAGE_MOST_LEVELS], fields[RIDDLESAGE_MOST_LEVELS], stuffed[RIDDLESAGE_MOST_LEVELS];
 static uint16_t transmit, receive;
 static uint32_t missed;
 static size_t count, place;
@@ -20,11 +20,14 @@ static char text[4096], field[RIDDLESAGE_FIELD_ROOM];
 /* Each call on a port, with valid other arguments. */
 static void call_all(riddlesage_port *port, riddlesage_status wanted)
 {
+  static riddlesage_coverage coverage;
+
   want(wanted, riddlesage_port_offer(port, &frame), "offer", __LINE__);
   want(wanted, riddlesage_port_hold(port, 1), "hold", __LINE__);
   want(wanted, riddlesage_port_drive(port, &level), "drive", __LINE__);
   want(wanted, riddlesage_port_sample(port, 1, &event, &reported), "sample", __LINE__);
   want(wanted, riddlesage_port_sample(port, 1, &event, NULL), "sample", __LINE__);
+  want(wanted, riddlesage_coverage_sample(port, &coverage, 1, &event, &reported), "coverage_sample", __LINE__);
   want(wanted, riddlesage_port_run(port, levels, 3, drives, events), "run", __LINE__);
   want(wanted, riddlesage_port_counters(port, &transmit, &receive), "counters", __LINE__);
   want(wanted, riddlesage_port_state(port, &state), "state", __LINE__);
@@ -64,6 +67,7 @@ static void null_pointers(riddlesage_port *port)
   WANT(NULL_POINTER, riddlesage_decode(NULL, 0, &heard, &place));
   WANT(NULL_POINTER, riddlesage_decode(levels, 1, NULL, &place));
   WANT(NULL_POINTER, riddlesage_decode(levels, 1, &heard, NULL));
+#ifndef RIDDLESAGE_PORTS_ONLY
   WANT(NULL_POINTER, riddlesage_run(NULL, 0, text, sizeof text, &count, field));
   WANT(NULL_POINTER, riddlesage_run("", 0, NULL, sizeof text, &count, field));
   WANT(NULL_POINTER, riddlesage_run("", 0, text, sizeof text, NULL, field));
@@ -73,6 +77,11 @@ static void null_pointers(riddlesage_port *port)
   WANT(NULL_POINTER, riddlesage_decode_levels(NULL, 0, text, sizeof text, &count, &place));
   WANT(NULL_POINTER, riddlesage_decode_levels(levels, 0, NULL, sizeof text, &count, &place));
   WANT(NULL_POINTER, riddlesage_decode_levels(levels, 0, text, sizeof text, NULL, &place));
+  WANT(NULL_POINTER, riddlesage_marks(NULL, 0, fields, stuffed, &count));
+  WANT(NULL_POINTER, riddlesage_marks(levels, 0, NULL, stuffed, &count));
+  WANT(NULL_POINTER, riddlesage_marks(levels, 0, fields, NULL, &count));
+  WANT(NULL_POINTER, riddlesage_marks(levels, 0, fields, stuffed, NULL));
+#endif
 }
 
 /* Frames with one field out of range. */
@@ -129,6 +138,34 @@ static void bad_numbers(riddlesage_port *port)
   WANT(NO_ROOM, riddlesage_encode(&frame, levels, 0, &count));
   WANT(NO_ROOM, riddlesage_encode(&frame, levels, 49, &count));
   WANT(OK, riddlesage_encode(&frame, levels, 50, &count));
+}
+
+/* A line of coverage is never too long for its buffer, whatever the count. */
+static void coverages(riddlesage_port *port)
+{
+  riddlesage_coverage coverage = RIDDLESAGE_COVERAGE_INIT, nothing = RIDDLESAGE_COVERAGE_INIT;
+  char line[RIDDLESAGE_COVERAGE_LINE];
+  size_t item;
+
+  WANT(NULL_POINTER, riddlesage_coverage_sample(NULL, &coverage, 1, &event, &reported));
+  WANT(NULL_POINTER, riddlesage_coverage_sample(port, NULL, 1, &event, &reported));
+  WANT(NULL_POINTER, riddlesage_coverage_sample(port, &coverage, 1, NULL, &reported));
+  WANT(BAD_LEVEL, riddlesage_coverage_sample(port, &coverage, 2, &event, &reported));
+  WANT_SAME(nothing, coverage);
+  WANT(OK, riddlesage_coverage_sample(port, &coverage, 1, &event, NULL));
+  WANT(NULL_POINTER, riddlesage_coverage_line(NULL, 0, line));
+  WANT(NULL_POINTER, riddlesage_coverage_line(&coverage, 0, NULL));
+  WANT(NO_ENTRY, riddlesage_coverage_line(&coverage, RIDDLESAGE_COVERAGE_ITEMS, line));
+  for (item = 0; item < RIDDLESAGE_COVERAGE_ITEMS; item++) {
+    WANT(OK, riddlesage_coverage_line(&nothing, item, line));
+    want(strstr(line, " reaches it") != NULL ? RIDDLESAGE_OK : RIDDLESAGE_NO_ROOM, RIDDLESAGE_OK, line, (int)item);
+    coverage.counts[item] = UINT64_MAX;
+    WANT(OK, riddlesage_coverage_line(&coverage, item, line));
+    want(strstr(line, "ive") != NULL || strstr(line, "Bus off") != NULL ? RIDDLESAGE_OK : RIDDLESAGE_NO_ROOM,
+         RIDDLESAGE_OK, line, (int)item);
+  }
+  if (riddlesage_coverage_name(item) != NULL || riddlesage_coverage_case(item) != NULL)
+    wrong++;
 }
 
 /* A block of exactly `size` bytes: a tool would find a read or write after it. */
@@ -291,6 +328,7 @@ static void kept(void)
   WANT(OK, riddlesage_port_delete(port));
 }
 
+#ifndef RIDDLESAGE_PORTS_ONLY
 static void want_text(const char *wanted, const char *given, int line)
 {
   tried++;
@@ -377,6 +415,35 @@ static void traces_of_levels(void)
     want_text("0 fault C3 at 5\n", text, __LINE__);
   }
 }
+#endif
+
+/* Levels that have no field, and each byte that is no level among those that are read. */
+static void fields_of_levels(void)
+{
+  static const uint8_t frame_begin[] = { 0, 1, 0, 0, 0, 0, 0, 1 }, recessive[] = { 1, 1, 1, 1, 1 };
+  uint8_t many[RIDDLESAGE_MOST_LEVELS + 1];
+  unsigned byte;
+
+  WANT(OK, riddlesage_marks(levels, 0, fields, stuffed, &count));
+  want(count == 0 ? RIDDLESAGE_OK : RIDDLESAGE_SHORT, RIDDLESAGE_OK, "no level", __LINE__);
+  WANT(OK, riddlesage_marks(recessive, sizeof recessive, fields, stuffed, &count));
+  want(count == 0 ? RIDDLESAGE_OK : RIDDLESAGE_SHORT, RIDDLESAGE_OK, "recessive levels", __LINE__);
+  WANT(OK, riddlesage_marks(frame_begin, sizeof frame_begin, fields, stuffed, &count));
+  want(count == 8 ? RIDDLESAGE_OK : RIDDLESAGE_SHORT, RIDDLESAGE_OK, "a stuff bit", __LINE__);
+  want(fields[0] == RIDDLESAGE_FIELD_START_OF_FRAME ? RIDDLESAGE_OK : RIDDLESAGE_FORM, RIDDLESAGE_OK, "SOF", __LINE__);
+  want(fields[7] == RIDDLESAGE_FIELD_IDENTIFIER && !stuffed[6] && stuffed[7] ? RIDDLESAGE_OK : RIDDLESAGE_STUFF,
+       RIDDLESAGE_OK, "a stuff bit", __LINE__);
+  memset(many, 1, sizeof many);
+  for (byte = 2; byte <= UINT8_MAX; byte++) {
+    count = 99;
+    many[RIDDLESAGE_MOST_LEVELS - 1] = (uint8_t)byte;
+    WANT(BAD_LEVEL, riddlesage_marks(many, sizeof many, fields, stuffed, &count));
+    want(count == 99 ? RIDDLESAGE_OK : RIDDLESAGE_BAD_LEVEL, RIDDLESAGE_OK, "nothing is written", __LINE__);
+    many[RIDDLESAGE_MOST_LEVELS - 1] = 1;
+    many[RIDDLESAGE_MOST_LEVELS] = (uint8_t)byte;
+    WANT(OK, riddlesage_marks(many, sizeof many, fields, stuffed, &count));
+  }
+}
 
 int main(void)
 {
@@ -393,11 +460,15 @@ int main(void)
   bad_numbers(&port);
   WANT_SAME(nothing_heard, heard);
   WANT_SAME(nothing_reported, reported);
+  coverages(&port);
   exact_lists(&port);
   behind_the_longest();
+#ifndef RIDDLESAGE_PORTS_ONLY
   bad_scenarios();
   texts();
   traces_of_levels();
+  fields_of_levels();
+#endif
   WANT(OK, riddlesage_port_free(&port));
   if (riddlesage_status_name((riddlesage_status)26) != NULL || riddlesage_event_name((riddlesage_event)12) != NULL ||
       riddlesage_phase_name((riddlesage_phase)15) != NULL || riddlesage_rule_name((riddlesage_rule)17) != NULL)

@@ -222,9 +222,103 @@ static void bad_wires(void)
   one_of_two_is_asked();
 }
 
+/* The arguments for a bus of two ports that runs. */
+struct run {
+  riddlesage_wire wire;
+  riddlesage_port *ports[RIDDLESAGE_MOST_PORTS + 1];
+  riddlesage_hit hits[2];
+  uint8_t events[2];
+  riddlesage_frame frames[2];
+  size_t passed;
+};
+
+static riddlesage_status ran(struct run *with, size_t ports, size_t hits, size_t bits)
+{
+  return riddlesage_wire_run(&with->wire, with->ports, ports, with->hits, hits, bits, with->events, with->frames,
+                             &with->passed);
+}
+
+/* Ports, pointers, hits and wires with which no bit time passes. */
+static void bad_runs(struct run *with)
+{
+  const riddlesage_wire last = { UINT64_MAX, 0, 0, 0 };
+  riddlesage_port unmade = RIDDLESAGE_PORT_INIT;
+  riddlesage_port *other = with->ports[1];
+  struct run before;
+
+  memcpy(&before, with, sizeof before);
+  WANT(NULL_POINTER, riddlesage_wire_run(NULL, with->ports, 2, NULL, 0, 9, with->events, with->frames, &with->passed));
+  WANT(NULL_POINTER, riddlesage_wire_run(&with->wire, NULL, 2, NULL, 0, 9, with->events, with->frames, &with->passed));
+  WANT(NULL_POINTER,
+       riddlesage_wire_run(&with->wire, with->ports, 2, NULL, 1, 9, with->events, with->frames, &with->passed));
+  WANT(NULL_POINTER, riddlesage_wire_run(&with->wire, with->ports, 2, NULL, 0, 9, NULL, with->frames, &with->passed));
+  WANT(NULL_POINTER, riddlesage_wire_run(&with->wire, with->ports, 2, NULL, 0, 9, with->events, NULL, &with->passed));
+  WANT(NULL_POINTER, riddlesage_wire_run(&with->wire, with->ports, 2, NULL, 0, 9, with->events, with->frames, NULL));
+  WANT(BAD_BUS, ran(with, 0, 0, 9));
+  WANT(BAD_BUS, ran(with, RIDDLESAGE_MOST_PORTS + 1, 0, 9));
+  WANT(NO_SUCH_PORT, ran(with, 1, 2, 9));
+  with->hits[1].kind = 3;
+  WANT(BAD_KIND, ran(with, 2, 2, 9));
+  with->hits[1].kind = RIDDLESAGE_HIT_VIEW;
+  with->ports[1] = with->ports[0];
+  WANT(BAD_BUS, ran(with, 2, 0, 9));
+  with->ports[1] = &unmade;
+  WANT(NO_PORT, ran(with, 2, 0, 9));
+  with->ports[1] = other;
+  memcpy(&with->wire, &last, sizeof last);
+  WANT(BAD_WIRE, ran(with, 2, 0, 9));
+  memcpy(&with->wire, &fresh, sizeof fresh);
+  WANT_SAME(before, *with);
+}
+
+/* A run ends with an event, at its last bit time, or when no more bit times can be counted. */
+static void ends_of_runs(struct run *with)
+{
+  const riddlesage_wire late = { UINT64_MAX - 3, 0, 0, 0 };
+
+  WANT(OK, ran(with, 2, 0, 0));
+  want(with->passed == 0 && with->events[0] == 0 ? RIDDLESAGE_OK : RIDDLESAGE_BAD_WIRE, RIDDLESAGE_OK, "no bit time",
+       __LINE__);
+  WANT(OK, ran(with, 2, 0, 9));
+  want(with->passed == 9 && with->wire.time == 9 && with->events[1] == 0 ? RIDDLESAGE_OK : RIDDLESAGE_BAD_WIRE,
+       RIDDLESAGE_OK, "nine bit times", __LINE__);
+  WANT(OK, riddlesage_port_offer(with->ports[0], &frame));
+  WANT(OK, ran(with, 2, 0, 99));
+  want(with->events[1] == RIDDLESAGE_RECEIVED && with->events[0] == RIDDLESAGE_NOTHING && with->frames[1].dlc == 0 &&
+               with->wire.time == 9 + with->passed && with->wire.attempts == 1
+           ? RIDDLESAGE_OK
+           : RIDDLESAGE_BAD_WIRE,
+       RIDDLESAGE_OK, "a reception", __LINE__);
+  WANT(OK, ran(with, 2, 0, 99));
+  want(with->passed == 1 && with->events[0] == RIDDLESAGE_SENT ? RIDDLESAGE_OK : RIDDLESAGE_BAD_WIRE, RIDDLESAGE_OK,
+       "a transmission", __LINE__);
+  memcpy(&with->wire, &late, sizeof late);
+  WANT(OK, ran(with, 2, 0, 9));
+  want(with->passed == 3 ? RIDDLESAGE_OK : RIDDLESAGE_BAD_WIRE, RIDDLESAGE_OK, "the last bit times", __LINE__);
+}
+
+static void runs(void)
+{
+  riddlesage_port one = RIDDLESAGE_PORT_INIT, other = RIDDLESAGE_PORT_INIT;
+  struct run with;
+
+  memset(&with, 0, sizeof with);
+  with.ports[0] = &one;
+  with.ports[1] = &other;
+  with.hits[0] = at_the_start;
+  with.hits[1] = of_a_view;
+  WANT(OK, riddlesage_port_idle(&one, 1, 1));
+  WANT(OK, riddlesage_port_idle(&other, 1, 1));
+  bad_runs(&with);
+  ends_of_runs(&with);
+  WANT(OK, riddlesage_port_free(&one));
+  WANT(OK, riddlesage_port_free(&other));
+}
+
 int main(void)
 {
   bad_buses();
   bad_wires();
+  runs();
   return ended();
 }

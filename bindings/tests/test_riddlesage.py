@@ -4,6 +4,7 @@ from __future__ import annotations
 
 import array
 import copy
+import ctypes
 import doctest
 import pathlib
 import pickle
@@ -43,7 +44,7 @@ from riddlesage import (
     encode,
     play,
 )
-from riddlesage._library import lib
+from riddlesage._library import PlainFrame, lib
 from scenarios import STATES, played, report
 
 
@@ -243,6 +244,22 @@ class Refusals(unittest.TestCase):
             with self.assertRaises(ValueError):
                 Frame(0, data, dlc=dlc, remote=remote)
         self.assertTrue(issubclass(BadFrame, ValueError))
+
+    def test_ranges(self) -> None:
+        """A frame has exactly the identifiers and DLCs that the library accepts."""
+        levels, count = ctypes.create_string_buffer(157), ctypes.c_size_t()
+        for extended in (False, True):
+            for identifier in (0, 0x7FF, 0x800, 0x1FFFFFFF, 0x20000000, 0xFFFFFFFF):
+                for dlc in (0, 15, 16, 255):
+                    plain = PlainFrame(identifier, extended, True, dlc)
+                    status = lib.riddlesage_encode(plain, levels, len(levels), count)
+                    with self.subTest(identifier=identifier, extended=extended, dlc=dlc):
+                        try:
+                            Frame(identifier, b"", extended, True, dlc)
+                        except BadFrame as refused:
+                            self.assertEqual(status, refused.status)
+                        else:
+                            self.assertEqual(status, Status.OK)
 
     def test_types(self) -> None:
         """Arguments of wrong types."""

@@ -14,6 +14,7 @@
  *   phase = $riddlesage_phase(port);                its phase, a riddlesage_phase
  *   $riddlesage_stands(port);                       writes its state: phase, role, and the rule that decides
  *   $riddlesage_report(event_code, frame);          writes an event, with the frame if one was sent or received
+ *   $riddlesage_cover(port);                        counts rule coverage from now on, and prints it at the end
  *
  * The data of a frame are its lowest 64 bits, the first byte in the highest of these. The simulation ends with a
  * message if the library refuses a call, a port does not exist, or a level or a frame has an x or a z. Nothing here is
@@ -21,13 +22,17 @@
  */
 #include "riddlesage.h"
 
+#include <stdio.h>
 #include <string.h>
 #include <vpi_user.h>
 
-enum { PORTS = 64, FRAME_BITS = 99, EXTENDED = 98, REMOTE = 97, IDENTIFIER = 68, DLC = 64, DATA_BYTES = 8 };
+enum { PORTS = 64, NAME_ROOM = 256 };
+enum { FRAME_BITS = 99, EXTENDED = 98, REMOTE = 97, IDENTIFIER = 68, DLC = 64, DATA_BYTES = 8 };
 
 static riddlesage_port ports[PORTS];
 static riddlesage_frame frames[PORTS];
+static riddlesage_coverage coverages[PORTS];
+static char covered[PORTS][NAME_ROOM]; /* the module that asked for coverage; empty if none did */
 static int made;
 
 static void end(const char *why)
@@ -282,7 +287,10 @@ static PLI_INT32 call_sample(PLI_BYTE8 *data)
   uint8_t event = RIDDLESAGE_NOTHING;
 
   (void)data;
-  demand(riddlesage_port_sample(&ports[port], level(&of), &event, &frames[port]));
+  if (covered[port][0] != '\0')
+    demand(riddlesage_coverage_sample(&ports[port], &coverages[port], level(&of), &event, &frames[port]));
+  else
+    demand(riddlesage_port_sample(&ports[port], level(&of), &event, &frames[port]));
   give_number(event);
   done(&of);
   return 0;
@@ -373,19 +381,48 @@ static PLI_INT32 call_report(PLI_BYTE8 *data)
   struct arguments of = arguments();
   int event = number(&of);
   const char *name = riddlesage_event_name((riddlesage_event)event);
-  const char *why;
   riddlesage_frame frame;
 
   (void)data;
   vpi_printf("%s", name != NULL ? name : "no event");
   if (event == RIDDLESAGE_SENT || event == RIDDLESAGE_RECEIVED) {
-    why = take_frame(&of, &frame);
+    const char *why = take_frame(&of, &frame);
     if (why != NULL)
       vpi_printf(" (%s)", why);
     else
       write_frame(&frame);
   }
   done(&of);
+  return 0;
+}
+
+static PLI_INT32 call_cover(PLI_BYTE8 *data)
+{
+  struct arguments of = arguments();
+  int port = port_of(&of);
+  const char *module = vpi_get_str(vpiFullName, vpi_handle(vpiScope, vpi_handle(vpiSysTfCall, NULL)));
+
+  (void)data;
+  snprintf(covered[port], NAME_ROOM, "%s", module != NULL && *module != '\0' ? module : "riddlesage");
+  done(&of);
+  return 0;
+}
+
+/* At the end of the simulation: the coverage of each port for which it was counted. */
+static PLI_INT32 print_coverage(p_cb_data data)
+{
+  char line[RIDDLESAGE_COVERAGE_LINE];
+  size_t item;
+  int port;
+
+  (void)data;
+  for (port = 0; port < made; port++) {
+    for (item = 0; covered[port][0] != '\0' && item < RIDDLESAGE_COVERAGE_ITEMS; item++) {
+      demand(riddlesage_coverage_line(&coverages[port], item, line));
+      vpi_printf("%s: %s\n", covered[port], line);
+    }
+    covered[port][0] = '\0'; /* a simulator that loads this module twice calls this twice */
+  }
   return 0;
 }
 
@@ -411,6 +448,13 @@ static void announce(const char *name, PLI_INT32 (*call)(PLI_BYTE8 *), PLI_INT32
 
 static void announce_all(void)
 {
+  s_cb_data at_end;
+
+  memset(&at_end, 0, sizeof at_end);
+  at_end.reason = cbEndOfSimulation;
+  at_end.cb_rtn = print_coverage;
+  vpi_register_cb(&at_end);
+  announce("$riddlesage_cover", call_cover, 0, NULL);
   announce("$riddlesage_port", call_port, vpiIntFunc, NULL);
   announce("$riddlesage_reset", call_reset, 0, NULL);
   announce("$riddlesage_copy", call_copy, 0, NULL);

@@ -6,13 +6,15 @@ import pathlib
 import subprocess
 import sys
 import time
-from collections.abc import Callable, Iterator, Sequence
-from dataclasses import dataclass, field
+from collections.abc import Callable, Iterator
+from dataclasses import dataclass, field, replace
 
 from finding.learning import Learning
+from finding.progress import Progress
+from finding.refuted import Refuted, Refuting, Showing
 from finding.wiring import with_words
-from finding.writing import Guess, Limit, Writing, held_outputs
-from holding.asking import SAME, Asking, Counterexample
+from finding.writing import Guess, Limit, Mapping, Writing, held_outputs
+from holding.asking import Asking
 from holding.circuit import Circuit
 from holding.faults import FAILED, NOT_PROVED, Fault
 from holding.netlist import Netlist
@@ -24,7 +26,23 @@ from playing.printing import number
 CYCLES = 16000  # clock cycles of 512 lanes
 PROOF_SECONDS = 600
 MOST_STATES = 4
+FOUND = ["What follows was found by equivalence/hold --find."]
+LEFT = [
+    "What follows is left of a search (equivalence/hold --find) that did not prove the outputs.",
+    "holds_..: proved; these parts are inductive together.",
+    "guess_..: holds in all states that were played, but is not inductive without what is missing.",
+    "To go on, find a part holds_.. that excludes the states that --find printed. Add it to the wiring, and search",
+    "again; or complete this mapping, and try it with equivalence/hold.",
+]
 DIFFERENT = 4  # the learner's status if outputs differ
+
+
+@dataclass
+class Limits:
+    """How long the learner proves, in seconds, and whether it goes on when an output is refuted."""
+
+    seconds: int
+    goes_on: bool
 
 
 @dataclass
@@ -39,21 +57,26 @@ class Found:
     needed: list[Guess] = field(default_factory=list)
     left: list[Guess] = field(default_factory=list)
     guesses: list[Guess] = field(default_factory=list)
+    kept: int = 0  # how many of these the play suggested; the others are weaker ones
     limits: dict[int, Limit] = field(default_factory=dict)
-    refuting: list[tuple[str, list[int]]] = field(default_factory=list)  # states, and what was given up by them
+    refuting: list[Refuting] = field(default_factory=list)
     chain: list[tuple[int, int, int]] = field(default_factory=list)  # from an output's to the first cause
 
     def take(self, line: str) -> None:
         """Takes a line."""
         word, *given = line.split(" ")
         if word == "state":
-            self.refuting.append((given[0], [int(it) for it in given[2:]]))
+            self.refuting.append(Refuting(given[0], given[1], tuple(int(it) for it in given[2:])))
             return
         numbers = [int(it) for it in given]
-        if word == "samples":
+        if word == "reasons":
+            self.refuting[-1] = replace(self.refuting[-1], reasons=tuple(numbers))
+        elif word == "samples":
             self.states, self.kinds = numbers
         elif word == "guesses":
             self.guessed = numbers[0]
+        elif word == "kept":
+            self.kept = numbers[0]
         elif word == "asked":
             self.questions = tuple(numbers)
         elif word == "outputs":
@@ -65,27 +88,51 @@ class Found:
         elif word in ("needed", "left", "guess"):
             {"needed": self.needed, "left": self.left, "guess": self.guesses}[word].append(Guess(*numbers))
 
+    def lost(self) -> list[Guess]:
+        """The guesses that the play suggested, and a state refutes that all others allow."""
+        gone = {number - len(self.outputs) for state in self.refuting for number in state.gone}
+        return [self.guesses[number] for number in sorted(gone) if 0 <= number < self.kept]
+
     @property
     def is_proved(self) -> bool:
         """Whether all outputs are proved equal."""
         return bool(self.outputs) and all(self.outputs)
 
 
-def learned(model: Learning, room: pathlib.Path, seed: int, seconds: int, goes_on: bool) -> Found | None:
-    """What the learner finds; None if outputs differ in its play. It may go on when an output is refuted."""
+def lines_of(words: list[str], room: pathlib.Path, progress: Progress) -> Iterator[str]:
+    """The lines that the learner prints, without those about its progress. Raises Fault if it fails."""
+    with (room / "errors").open("w+") as errors:
+        with subprocess.Popen(words, stdout=subprocess.PIPE, stderr=errors, text=True) as ran:
+            assert ran.stdout is not None
+            for line in ran.stdout:
+                word, *given = line.split()
+                if word == "progress":
+                    progress.show(given[0], int(given[1]), int(given[2]))
+                else:
+                    yield line.rstrip("\n")
+        if ran.returncode == DIFFERENT:
+            yield "different"
+        elif ran.returncode:
+            errors.seek(0)
+            raise Fault(f"the learner ended with status {ran.returncode}: {errors.read().strip()[-300:]}", FAILED)
+
+
+def learner(model: Learning, room: pathlib.Path, seed: int, limits: Limits) -> list[str]:
+    """The learner's command line, without changes of the design. It is compiled now if it isn't yet."""
     program, line = built(LEARNER, room)
     if line:
         print(line, file=sys.stderr)
     graph = room / "learn"
     model.write_to_learn(graph)
-    words = [str(program), str(graph), str(seed), str(CYCLES), str(seconds), str(int(goes_on))]
-    ran = subprocess.run(words, capture_output=True, text=True)
-    if ran.returncode == DIFFERENT:
-        return None
-    if ran.returncode:
-        raise Fault(f"the learner ended with status {ran.returncode}: {ran.stderr.strip()}", FAILED)
+    return [str(program), str(graph), str(seed), str(CYCLES), str(limits.seconds), str(int(limits.goes_on))]
+
+
+def learned(words: list[str], room: pathlib.Path, progress: Progress) -> Found | None:
+    """What the learner finds; None if outputs differ in its play."""
     found = Found()
-    for text in ran.stdout.splitlines():
+    for text in lines_of(words, room, progress):
+        if text == "different":
+            return None
         found.take(text)
     return found
 
@@ -108,8 +155,13 @@ class Finding:
     def run(self) -> int:
         """Finds a mapping, and returns the status."""
         begun = time.monotonic()
-        model = Learning(self.read(with_words(self.relation, self.circuit)))
-        found = learned(model, self.room, self.seed, self.seconds, self.output is not None)
+        progress = Progress(begun)
+        netlist = self.read(with_words(self.relation, self.circuit))
+        progress.show("reading")
+        model = Learning(netlist)
+        progress.show("reading")
+        limits = Limits(self.seconds, self.output is not None)
+        found = learned(learner(model, self.room, self.seed, limits), self.room, progress)
         if found is None:
             return self.play(self.read(self.relation))
         lines = [f"learned: {number(found.guessed)} guesses hold in {number(found.states)} states that were played"]
@@ -118,8 +170,8 @@ class Finding:
         show([*lines, f"found: {len(found.needed)} equalities, {time.monotonic() - begun:.0f} s"])
         if not found.is_proved:
             return self.give_up(model, found)
-        note = "What follows was found by equivalence/hold --find."
-        text = self.text(model, found.needed, found, note)
+        held = held_outputs(model, model.lists_to_learn()["held"])
+        text = Writing(model, found.limits).text(self.relation, Mapping(found.needed, held, FOUND))
         self.write(text)
         return hold(self.asking(read_relation(text, self.output or "the mapping found")), self.vcd)
 
@@ -130,13 +182,9 @@ class Finding:
         for _, signal, _ in model.given:
             if signal not in kept:
                 yield f"given up: {model.given_name(signal)}"
-                texts = (text for text, gone in found.refuting if places.get(signal) in gone)
-                yield next((f"  before: {state(before(model, it), 0)}" for it in texts), "  it fails in the play")
-
-    def text(self, model: Learning, guesses: Sequence[Guess], found: Found, note: str) -> str:
-        """The register mapping with these guesses."""
-        held = model.lists_to_learn()["held"]
-        return Writing(model, found.limits).text(self.relation, guesses, held_outputs(model, held), note)
+                states = (it for it in found.refuting if places.get(signal) in it.gone)
+                lines = (f"  before: {state(Refuted(model, it), 0)}" for it in states)
+                yield next(lines, "  it fails in the play")
 
     def write(self, text: str) -> None:
         """Writes the mapping, if that is wanted."""
@@ -146,24 +194,16 @@ class Finding:
 
     def give_up(self, model: Learning, found: Found) -> int:
         """Reports where the proof failed, and writes what is left."""
-        names = [name for name in model.parts if name.startswith(SAME)]
-        outputs = len(names)
-        writing = Writing(model, found.limits)
+        showing = Showing(model, Writing(model, found.limits), found.guesses)
         chain = found.chain[::-1] or [(at, -1, -1) for at in range(len(found.refuting))]
         for at, there, same in [*chain[: MOST_STATES - 1], *chain[MOST_STATES - 1 :][-1:]]:
-            text, gone = found.refuting[at]
-            said = [names[it] if it < outputs else writing.said(found.guesses[it - outputs]) for it in gone[:3]]
-            show([f"given up: {'; '.join(said)}", f"  before: {state(before(model, text), 0)}"])
+            show(list(showing.lines(found.refuting[at])))
             if there >= 0:
-                show([f"  played: {number(there)} bit times of this phase, {number(same)} with these registers"])
-        note = "What follows is left of the guesses of equivalence/hold --find. It doesn't prove the outputs."
-        self.write(self.text(model, found.left, found, note))
-        lost = [name for name, is_proved in zip(names, found.outputs) if not is_proved]
+                show([f"  played: {number(there)} states of this phase, {number(same)} with these registers"])
+        proved = [name for name, is_proved in zip(showing.outputs(), found.outputs) if is_proved]
+        held = [name for name in proved if name in model.held_parts()]
+        mapping = Mapping(found.left, held, LEFT, found.lost())
+        self.write(Writing(model, found.limits).text(self.relation, mapping))
+        lost = [name for name, is_proved in zip(showing.outputs(), found.outputs) if not is_proved]
         show([f"not proved: {', '.join(lost) or 'time is up'}; no difference was found either"])
         return NOT_PROVED
-
-
-def before(model: Learning, text: str) -> Counterexample:
-    """A state that the learner printed, in the form in which states are shown."""
-    given = {held >> 1: bit == "1" for held, bit in zip(model.registers, text)}
-    return Counterexample("step", [model.bit_time], model.gates.values(given), 0, [])

@@ -24,6 +24,8 @@ ENDS = {"standard": (14, 15, 19), "extended": (14, 32, 33, 35, 39)}  # levels af
 DATA_START = {"standard": 19, "extended": 39}
 LEVELS, CRC_LEVELS = 103, 15
 EVENTS = range(12)
+# a frame was sent or received: the circuit still has it
+OF_FRAMES = tuple(f"{event}_{number}" for event in ("event", "event_a_clock_ago") for number in (1, 2))
 INDEX = {"in": "index", "sent": "sent_index", "read": "read_index"}
 SLICE = re.compile(r"(.*)\[(\d+)(?::(\d+))?\]$")
 
@@ -61,6 +63,11 @@ def is_below(gates: Gates, word: list[int], limit: int) -> int:
     return TRUE if limit >> len(word) else below
 
 
+def limits_of(name: str, width: int) -> list[Atom]:
+    """Whether a word is less than each of its values, or not."""
+    return [Atom(name, test, number) for number in range(1, 1 << width) for test in ("<", ">=")]
+
+
 def named_atoms() -> dict[str, Atom]:
     """All atoms of the circuit, by name."""
     made = {"frame": Atom("words_in_frame"), "after_part": Atom("words_after_part")}
@@ -85,6 +92,10 @@ def named_atoms() -> dict[str, Atom]:
         made |= {f"{of}_index_{number}": Atom(f"words_{of}_index", "==", number) for number in range(18)}
         made |= {f"{of}_bit_{number}": Atom(f"words_{of}_index[2:0]", "==", number) for number in range(8)}
         made |= {f"{of}_byte_{number}": Atom(f"words_{of}_index[6:3]", "==", number) for number in range(8)}
+    made["past_data"] = Atom("words_is_past_data")
+    for number in range(1, LEVELS + CRC_LEVELS + 1):
+        made[f"crc_below_{number}"] = Atom("words_taken_crc", "<", number)
+        made[f"taken_from_{number}"] = Atom("words_taken", ">=", number)
     made["before_crc"] = Atom(f"words_field[{list(FIELDS).index('crc')}]", is_negated=True)
     for number in range(8):
         made[f"bit_{number}"] = Atom("words_index[2:0]", "==", number)
@@ -130,13 +141,18 @@ class Condition:
 class Conditions:
     """All conditions, the coarser ones first; those with literals of their own last."""
 
-    def __init__(self, gates: Gates, word: Callable[[str], list[int]], flags: Iterable[str]) -> None:
+    def __init__(
+        self, gates: Gates, word: Callable[[str], list[int]], flags: Iterable[str], paces: Iterable[str]
+    ) -> None:
         self.gates, self.word = gates, word
         self.atoms = named_atoms()
         for name in flags:
             self.atoms |= {name: Atom(name), f"!{name}": Atom(name, is_negated=True)}
+        tests = {f"{it.word} {it.test} {it.number}": it for name in paces for it in limits_of(name, len(word(name)))}
+        self.atoms |= tests
         self.literals: dict[str, int] = {}
-        listed = dict.fromkeys(frozenset(it) for it in [*self.listed(), *self.of_flags(flags)])
+        of_design = [*self.of_flags(flags), *self.of_paces(tests)]
+        listed = dict.fromkeys(frozenset(it) for it in [*self.listed(), *of_design])
         self.all = [self.condition(it) for it in sorted(listed, key=len)]
         self.plain = len(self.all)
 
@@ -159,6 +175,12 @@ class Conditions:
         kept = sorted(atoms - silent, key=list(self.atoms).index)
         return " && ".join(self.atoms[it].text(lambda word: len(self.word(word))) for it in kept)
 
+    def words(self, number: int) -> list[str]:
+        """The words that a condition tests."""
+        atoms = self.all[number].atoms
+        silent = {other for it in atoms for other in IMPLIED.get(it, ())}
+        return [self.atoms[it].word for it in sorted(atoms - silent)]
+
     def listed(self) -> Iterator[Iterable[str]]:
         """All sets of atoms of the circuit."""
         yield ()
@@ -167,6 +189,8 @@ class Conditions:
         for number in EVENTS:
             yield (f"event_{number}",)
             yield (f"event_a_clock_ago_{number}",)
+        for name in OF_FRAMES:
+            yield from ((name, form) for form in FORMATS)
         for role in ROLES:
             for more in ((), ("after_part",)):
                 yield ("frame", *more, *role)
@@ -260,6 +284,14 @@ class Conditions:
                         for more in ((), ("first",), ("later",)):
                             yield (*self.base(number), flag, "place_0", *more)
 
+    def of_paces(self, tests: Iterable[str]) -> Iterator[Iterable[str]]:
+        """A part of a bit time of many clock cycles, in each phase."""
+        for test in tests:
+            yield (test,)
+            for number in range(len(PHASES)):
+                for role in ROLES if 1 < number < BUS_OFF else ROLES[:1]:
+                    yield (*self.base(number), *role, test)
+
     def add(self, atoms: Iterable[str], family: str, only: list[int]) -> int:
         """One more condition, with what registers may equal under it; returns its number."""
         made = self.condition(atoms)
@@ -276,14 +308,19 @@ class Conditions:
                 self.add(["frame", form, f"past_{number + 1}", *more], f"level {form}", [heard[number]])
             for number in range(8):
                 start = DATA_START[form] + 8 * number
-                atoms = ["frame", form, f"past_{start + 8}", f"bytes_over_{number}"]
-                self.add(atoms, f"byte {form}", heard[start : start + 8])
+                bits = heard[start : start + 8]
+                self.add(["frame", form, f"past_{start + 8}", f"bytes_over_{number}"], f"byte {form}", bits)
+                for name in OF_FRAMES:
+                    self.add([name, form, f"bytes_over_{number}"], f"byte {form} {name}", bits)
 
     def add_latest(self) -> None:
-        """For each number of levels received before the CRC sequence: a register may equal the earliest of them."""
+        """For each level by how many have come after it, before the CRC sequence or since: a register may equal it."""
         part = (*self.base(STUFFED_PART), "before_crc")
         for number, level in enumerate(self.word("words_latest")):
-            self.add([*part, f"past_{number + 1}"], "level ago", [level])
+            if number < LEVELS:
+                self.add([*part, f"past_{number + 1}"], "level ago", [level])
+            known = f"crc_below_{number + 1}" if number < CRC_LEVELS else f"taken_from_{number + 1}"
+            self.add(["frame", "past_data", known], "level ago with the CRC sequence", [level])
         for byte in range(8):
             for bit, level in enumerate(self.word("words_latest")[:7]):
                 atoms = [*self.base(STUFFED_PART), "in_data", f"byte_{byte}", f"bit_over_{bit}"]

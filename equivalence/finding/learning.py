@@ -5,9 +5,9 @@ from __future__ import annotations
 import pathlib
 from collections.abc import Iterable, Sequence
 
-from finding.conditions import CRC_LEVELS, FORMATS, PHASES, SLICE, Conditions
+from finding.conditions import CRC_LEVELS, FORMATS, OF_FRAMES, PHASES, SLICE, Conditions
 from finding.wiring import CLOCK_AGO, EARLIER, EVENT, PREFIX
-from holding.asking import HOLDS, SAME
+from holding.asking import ENABLE, GIVEN, HOLDS, SAME
 from holding.faults import Fault
 from holding.gates import FALSE, TRUE
 from holding.netlist import MUTATION, Key, Netlist
@@ -26,6 +26,7 @@ OF_TRANSMITTER = (
 ANY_TIME = ("minus_", "in_", "after_part", "field")
 WIDE_BITS = 16
 RECORD_BITS = 128  # a word with more is a record, whose bits have nothing in common
+PACE_BITS = 5
 NARROW = range(3, 10)  # the widths of registers that may be numbers with a limit
 ROLES = {"frame", "after_part", "transmitter", "receiver", *FORMATS, *(f"own_{it}" for it in FORMATS), *PHASES}
 COARSE = {*ROLES, "on_bus", "first", "later", "passive", "active", *(f"place_{number}" for number in range(11))}
@@ -42,7 +43,7 @@ class Learning(Model):
         self.main = self.gates.signals
         self.supports = self.found_supports()
         self.flags = self.named_flags()
-        self.conditions = Conditions(self.gates, self.any_word, self.flags)
+        self.conditions = Conditions(self.gates, self.any_word, self.flags, self.named_paces())
         self.named = [*self.guesses_of_transmitter(), *self.guesses_of_circuit()]
         self.given = self.given_guesses()
         self.conditions.add_received()
@@ -101,6 +102,14 @@ class Learning(Model):
     def named_flags(self) -> list[str]:
         """The design's registers of one bit."""
         return [name for name in self.words_of(DESIGN) if len(self.words[name]) == 1 and not SLICE.search(name)]
+
+    def named_paces(self) -> list[str]:
+        """The design's narrow registers that decide when a bit time ends."""
+        ends = set(self.cone(self.words[ENABLE]))
+        of_design = self.words_of(DESIGN)
+        paces = [name for name, word in of_design.items() if 1 < len(word) <= PACE_BITS and not SLICE.search(name)]
+        paces = [name for name in paces if len(of_design[name]) == len(self.words[name])]
+        return [name for name in paces if ends & {it >> 1 for it in of_design[name]}]
 
     def guesses_of_transmitter(self) -> list[tuple[int, int, int]]:
         """A transmitter hears its own frame, and goes on only while its CRC sequence is heard."""
@@ -161,7 +170,7 @@ class Learning(Model):
         atoms = self.conditions.all[number].atoms
         if not atoms or {"frame", "transmitter"} <= atoms:
             return AT_TRANSMITTER
-        return IN_FRAME if "frame" in atoms else ANYWHERE
+        return IN_FRAME if "frame" in atoms or not atoms.isdisjoint(OF_FRAMES) else ANYWHERE
 
     def partners(self) -> dict[int, int]:
         """Signals that a register of the design may equal, with their kinds, the likeliest first."""
@@ -220,7 +229,9 @@ class Learning(Model):
         words = {name: number for number, name in enumerate(self.word_numbers)}
         families = {name: number for number, name in enumerate(dict.fromkeys(it.family for it in conditions))}
         ranges = {**self.words_of(DESIGN), **self.words_of(WIRING)}
-        ranges = {name: word for name, word in ranges.items() if len(word) in NARROW and name in words}
+        # of a word of which some bits are gates, the registers alone are no number
+        ranges = {name: it for name, it in ranges.items() if len(it) in NARROW and len(it) == len(self.words[name])}
+        ranges = {name: word for name, word in ranges.items() if name in words}
         named = [*self.named, *self.given]
         others = [*self.pairs, *(signal for _, signal, _ in self.named)]
         made = self.lists([])
@@ -256,11 +267,23 @@ class Learning(Model):
             "weaker": [int(not it.only and is_coarse(it.atoms)) for it in conditions],
             "ranges": flat([words[name], *word] for name, word in ranges.items()),
             "legal": self.words["gates.legal"],
+            "inputs": self.free_signals(),
             "reset": [self.bit_time.literal(self.netlist.inputs["reset"][0]) >> 1],
         }
         made["signals"] = [self.gates.signals]
         made["gates"] = [number for signal, sides in self.gates.gates.items() for number in (signal, *sides)]
         return made
+
+    def free_signals(self) -> list[int]:
+        """The inputs that what is compared depends on in a bit time, and what is undefined in the design."""
+        read = self.cone([*self.literals_of(SAME), *self.literals_of(GIVEN), *self.registers.values()])
+        held = {it >> 1 for it in self.registers}
+        return [it for it in read if it not in self.gates.gates and it not in held]
+
+    def held_parts(self) -> list[str]:
+        """The compared outputs that depend on registers alone."""
+        names = [name for name in self.parts if name.startswith(SAME)]
+        return [name for name in names if not self.supports[self.parts[name] >> 1] & INPUT]
 
     def group(self, signal: int) -> str:
         """What a register's guesses are proved together with: those of its word; a bit of a record is alone."""

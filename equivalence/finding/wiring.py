@@ -7,6 +7,7 @@ import re
 from collections.abc import Iterable
 
 from holding.circuit import Circuit
+from holding.faults import Fault
 from holding.relation import Relation, blanked, read_relation
 
 SOURCE = pathlib.Path(__file__).resolve().parent.parent / "words.v"
@@ -85,5 +86,8 @@ def with_lines(relation: Relation, lines: list[str]) -> Relation:
 
 
 def with_words(relation: Relation, circuit: Circuit) -> Relation:
-    """The wiring with all of these words."""
+    """The wiring with all of these words. Raises Fault if it is a mapping that has some."""
+    if re.search(rf"\b{MODULE}\b", blanked(relation.text)):
+        said = f"{relation.path} has the module {MODULE}, which --find adds"
+        raise Fault(f"{said}: give the wiring without what was found")
     return with_lines(relation, [*instance(), *earlier(earlier_words(circuit)), *clock_ago()])

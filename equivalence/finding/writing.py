@@ -15,9 +15,10 @@ from holding.relation import Relation, blanked, read_relation
 
 BIT = re.compile(r"(.*)\[(\d+)\]$", re.S)
 NAME = re.compile(r"[^A-Za-z0-9]+")
-LEVEL = re.compile(r"(?:past|left)_(\d+)")
+LEVEL = re.compile(r"(?:past|left|below|from)_(\d+)")
 LOOPED = ("level ", "identifier to", "data to", "frame to", "later to")
 LINE = 118
+MOST_LOST = 12  # tests of a register in a guess that is not proved
 LOOP = 4  # places from which on a loop is shorter
 
 
@@ -36,6 +37,16 @@ class Limit:
 
     word: int
     most: int
+
+
+@dataclass(frozen=True)
+class Mapping:
+    """What is written: guesses that are proved, outputs that are parts of the invariant, a note; lost guesses."""
+
+    guesses: Sequence[Guess]
+    held: Sequence[str]
+    note: Sequence[str]
+    lost: Sequence[Guess] = ()
 
 
 Place = tuple[str, int, bool]  # a word, a place in it, whether it is negated
@@ -284,7 +295,7 @@ class Writing:
     def tests(self, guess: Guess, number: int) -> str:
         """The condition with `at` for the level's number."""
         text = self.model.conditions.text(guess.condition)
-        return re.sub(rf" >= 7'd{number + 1}\b", " > at", text)
+        return re.sub(rf" < 7'd{number + 1}\b", " <= at", re.sub(rf" >= 7'd{number + 1}\b", " > at", text))
 
     def loop(self, run: Sequence[Guess], first: int, tests: str) -> str:
         """A loop over levels, and its result."""
@@ -363,18 +374,22 @@ class Writing:
         literal = next(iter(row.values()))
         return other == (self.names.get(literal >> 1, ("",))[0] if literal > 1 else "")
 
-    def text(self, relation: Relation, guesses: Sequence[Guess], held: Sequence[str], note: str) -> str:
+    def text(self, relation: Relation, mapping: Mapping) -> str:
         """The whole register mapping."""
-        self.guesses, self.falling, self.loops = list(guesses), {}, 0
+        guesses = mapping.guesses
+        self.guesses, self.falling, self.loops = [*guesses, *mapping.lost], {}, 0
         names, lines = [], []
-        for name, terms in [*self.parts(guesses), *((name, [name]) for name in held)]:
-            names.append(HOLDS + NAME.sub("_", name.removeprefix("dut.")).strip("_"))
-            while re.search(rf"\b{names[-1]}\b", relation.text):
-                names[-1] += "_found"
-            lines += statement(names[-1], terms)
+        for name, terms in [*self.parts(guesses), *((name, [name]) for name in mapping.held)]:
+            names.append(part_name(HOLDS, name, relation))
+            lines += statement("assign", names[-1], terms)
+        for name, terms in self.parts(mapping.lost):
+            shown = [it for at, it in enumerate(terms) if at < MOST_LOST or it.startswith("&")]
+            more = [f"    // and {len(terms) - len(shown)} more guesses about it:"] if len(shown) < len(terms) else []
+            lines += [*more, *statement("wire", part_name("guess_", name, relation), shown)]
         used = {word for line in [*lines, *self.lines] for word in re.findall(rf"\b{EARLIER}(\w+)", line)}
         widths = {name: width for name, width in earlier_words(self.model.netlist.circuit).items() if name in used}
-        body = [f"    // {note}", *instance("\n".join([*self.lines, *lines])), *earlier(widths)]
+        body = [f"    // {line}" for line in mapping.note]
+        body += [*instance("\n".join([*self.lines, *lines])), *earlier(widths)]
         if any(CLOCK_AGO in line for line in [*self.lines, *lines]):
             body += clock_ago()
         if any("(at = " in line for line in self.lines):
@@ -391,12 +406,20 @@ def negated(test: str) -> str:
     return f"!({test})"
 
 
-def statement(name: str, terms: Sequence[str]) -> list[str]:
+def part_name(prefix: str, subject: str, relation: Relation) -> str:
+    """The name of a part about a word, or an output, that the wiring doesn't use."""
+    name = prefix + NAME.sub("_", subject.removeprefix("dut.")).strip("_")
+    while re.search(rf"\b{name}\b", relation.text):
+        name += "_found"
+    return name
+
+
+def statement(kind: str, name: str, terms: Sequence[str]) -> list[str]:
     """A part: one line if it fits, otherwise a line for each term."""
-    line = f"    assign {name} = {' && '.join(terms)};"
+    line = f"    {kind} {name} = {' && '.join(terms)};"
     if len(line) <= LINE:
         return [line]
-    made = [f"    assign {name} ="]
+    made = [f"    {kind} {name} ="]
     for at, term in enumerate(terms):
         made += broken(f"        {term}{';' if at + 1 == len(terms) else ' &&'}")
     return made

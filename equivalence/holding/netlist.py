@@ -144,11 +144,6 @@ class Netlist:
         for bit, key in zip(bits, keys):
             self.drivers[bit] = ("$_BUF_", [(key, False)])
 
-    def fix(self, word: str, number: int) -> None:
-        """A word that nothing drives is this number from now on."""
-        for place, key in enumerate(self.words[word]):
-            self.drivers[key] = ("$_BUF_", [(str(number >> place & 1), False)])
-
     def circuit_word(self, name: str, width: int) -> list[Key]:
         """The keys of a word of the circuit."""
         return [f"{name}[{place}]" for place in range(width)]

@@ -95,9 +95,8 @@ def valued(found: Counterexample, name: str, now: int) -> str:
     return f"{name} {' then '.join(dict.fromkeys(shown))}"
 
 
-def report(found: Counterexample) -> list[str]:
-    """The lines that show a counterexample."""
-    now = found.at - 1 if found.fails[0].startswith(HOLDS) else found.at
+def bit_time_lines(found: Counterexample, now: int) -> list[str]:
+    """The lines that show a bit time: the circuit's state before it, the inputs, what the circuit does."""
     lines = []
     if found.number(now, "gates.reset"):
         lines.append("  before: any state; reset")
@@ -107,6 +106,13 @@ def report(found: Counterexample) -> list[str]:
         lines.append(f"  circuit: drives {LEVELS[drives]}, event {EVENTS[event] if event < len(EVENTS) else event}")
     if now < found.at:
         lines.append(f"  after: {state(found, found.at)}")
+    return lines
+
+
+def report(found: Counterexample) -> list[str]:
+    """The lines that show a counterexample."""
+    now = found.at - 1 if found.fails[0].startswith(HOLDS) else found.at
+    lines = bit_time_lines(found, now)
     if found.query.startswith(FIRST):
         levels = [str(found.number(at, "gates.bus")) for at in range(1, found.at + 1)]
         lines.append(f"  bus levels from reset: {''.join(levels)}")

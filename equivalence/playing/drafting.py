@@ -17,49 +17,65 @@ from holding.tools import ran_yosys, synthesized
 ENTITY = re.compile(r"^\s*entity\s+(\w+)\s+is\b", re.I | re.M)
 VHDL = (".vhd", ".vhdl")
 # the parts of a name that say nothing
-AFFIXES = re.compile(r"^(i_|o_|in_|out_)|(_i|_o|_in|_out|_reg)$")
-RECEIVED = re.compile(r"(rx|received)_?", re.I)
+AFFIXES = re.compile(r"^(i|o|in|out|stat(us)?)_|_(i|o|in|out|reg|r|q)$")
+WORDS = re.compile(r"(?<=[a-z0-9])(?=[A-Z])")  # between two words in CamelCase
+# parts of the names below: of the frame to send, of the one received, and of their fields
+TO_SEND = r"(wait\w*|tx|transmit|send|req(uest)?)_?((frame|fr|msg|message|mb)_?)?"
+OF_FRAME = r"((bus|rx|rcvd?|recv|received?|frame|fr|msg|message)_?){1,2}"
+EXTENDED, REMOTE = r"(is_?)?(extended|ext|xtd|ide|eff)", r"(is_?)?(remote|rtr)"
+IDENTIFIER, DLC, DATA = r"(identifier|ident|id)", r"(dlc|len(gth)?)", r"(data|payload)"
+OVERLOAD = r"(overload|ovl)_?"
+RECEIVED = re.compile(r"(bus_?)?(rx|rcvd?|recv|received?)_?", re.I)
 RESET_LOW = re.compile(r"n_?re?se?t|re?se?t_?n|a?rst_?n|re?se?t_?b")
 # names of a design's inputs for each input of the circuit, and of its outputs for each output; the first that fits
 INPUTS = {
     "clock": r"(sys_?|core_?)?cl(oc)?k",
     "reset": r"a?(sync_?)?re?se?t|rst|" + RESET_LOW.pattern,
-    "integrating": r"((re?se?t|init)_?)?integrat\w+|joins?|joining",
-    "enable": r"enable|en|ce|clk_?en|sample(_?point|_?strobe)?|(bit_?)?(strobe|tick)",
-    "bus": r"bus|(can_?)?rxd?|can_?rx|bus_?level|wire_?level|bus_?in",
-    "overload_request": r"(overload|ovl)_?(req(uest)?|set)?|hold",
-    "overload_count": r"(overload|ovl)_?(count|cnt|frames|num(ber)?)|hold_?(wish|count)",
-    "waits": r"waits?|pending|(tx|wait\w*|send)_?(req(uest)?|valid|start|pending)|send|start",
-    "wait_extended": r"(wait\w*|tx|send)_?(is_?)?(extended|ext|ide|eff)",
-    "wait_remote": r"(wait\w*|tx|send)_?(is_?)?(remote|rtr)",
-    "wait_identifier": r"(wait\w*|tx|send)_?(identifier|id)",
-    "wait_dlc": r"(wait\w*|tx|send)_?(dlc|len(gth)?)",
-    "wait_data": r"(wait\w*|tx|send)_?data",
+    "integrating": r"((re?se?t|init)_?)?integrat\w+|(re_?)?join\w*",
+    "enable": r"enable|en|ce|clk_?en|sample(_?(point|strobe|tick|en))?|(bit_?)?(strobe|tick)",
+    "bus": r"bus|(can_?)?rxd?|can_?rx|bus_?level|wire_?level|bus_?in|(can_?)?rx_?(bit|level|pin)",
+    "overload_request": OVERLOAD + r"(req(uest)?|set|write|wr|load|strobe|valid)?|hold",
+    "overload_count": OVERLOAD + r"(count|cnt|frames|num(ber)?|n)|hold_?(wish|count)",
+    "waits": r"waits?|pending|(tx|wait\w*|send)_?(req(uest)?|valid|start|pending)|send|start|req(uest)?",
+    "wait_extended": TO_SEND + EXTENDED,
+    "wait_remote": TO_SEND + REMOTE,
+    "wait_identifier": TO_SEND + IDENTIFIER,
+    "wait_dlc": TO_SEND + DLC,
+    "wait_data": TO_SEND + DATA,
 }
+STROBE = re.compile(r"sample(_?(point|strobe|tick|en|now))?|(bit_?)?strobe")
 OUTPUTS = {
-    "drive": r"drives?|(can_?)?txd?|can_?tx|level|bus_?out",
-    "tec": r"tec|tx_?err(or)?_?(count(er)?|cnt)|transmit_?error_?count(er)?",
-    "rec": r"rec|rx_?err(or)?_?(count(er)?|cnt)|receive_?error_?count(er)?",
+    "drive": r"drives?|(can_?)?txd?|can_?tx|level|bus_?out|(can_?)?tx_?(bit|level|pin)",
+    "tec": r"tec|tx_?err(or)?s?_?(count(er)?|cnt)|transmit_?error_?count(er)?",
+    "rec": r"rec|rx_?err(or)?s?_?(count(er)?|cnt)|receive_?error_?count(er)?",
     "passive": r"(is_?)?(err(or)?_?)?passive",
     "off": r"(is_?)?(bus_?)?off",
-    "event_code": r"event(_?code)?|told",
-    "frame_extended": r"(frame|rx|received)_?(is_?)?(extended|ext|ide|eff)",
-    "frame_remote": r"(frame|rx|received)_?(is_?)?(remote|rtr)",
-    "frame_identifier": r"(frame|rx|received)_?(identifier|id)",
-    "frame_dlc": r"(frame|rx|received)_?(dlc|len(gth)?)",
-    "frame_data": r"(frame|rx|received)_?data",
+    "event_code": r"(event|evt|ev)(_?(code|kind|type|num(ber)?))?|told",
+    "frame_extended": OF_FRAME + EXTENDED,
+    "frame_remote": OF_FRAME + REMOTE,
+    "frame_identifier": OF_FRAME + IDENTIFIER,
+    "frame_dlc": OF_FRAME + DLC,
+    "frame_data": OF_FRAME + DATA,
 }
 NEEDED = ("reset", "bus")  # inputs that the wiring has in any case
 NOTES = """
     // Lines to copy, if the design needs them:
     // - a reset that is active at 0: .{reset}(~reset)
-    // - a sample strobe of the design: .enable(dut.STROBE) in gates, in place of .enable(1'b1)
+    // - a sample strobe of the design: .enable(dut.STROBE) in gates, in place of .enable(1'b1), and !dut.STROBE || ..
+    //   in same_drive, if the level changes at another time
     // - an enable of the design: an input `enable` of this module, to both
-    // - the first data byte as the most significant one:
-    //       wire [63:0] turned; riddlesage_bytes turned_wait (.given(wait_data), .turned(turned));
+    // - the first data byte as the most significant one: turned_wait for the design, turned_frame to compare with it
+    //       wire [63:0] turned_wait, turned_frame;
+    //       riddlesage_bytes wait_bytes (.given(wait_data), .turned(turned_wait));
+    //       riddlesage_bytes frame_bytes (.given(gates.frame_data), .turned(turned_frame));
     // - no overload requests: .overload_request(1'b0) and .overload_count(2'd0) in gates
-    // - an event that is reported one bit time later: keep the circuit's for one clock cycle, and compare that
-    //       reg [3:0] event_code; always @(posedge clock) event_code <= reset ? 4'd0 : gates.event_code;
+    // - an event that is reported after its bit time: keep the circuit's, and compare event_code with the design's
+    //       reg [3:0] event_code;
+    //   for one clock cycle:
+    //       always @(posedge clock) event_code <= reset ? 4'd0 : gates.event_code;
+    //   until the next bit time ends:
+    //       always @(posedge clock) if (reset || gates.enable) event_code <= reset ? 4'd0 : gates.event_code;
+    //   and its frame in the same way
     // - a frame with other values in unused bits: compare what riddlesage_frame makes of both"""
 
 
@@ -78,12 +94,16 @@ class Match:
 
     inputs: dict[str, Port] = field(default_factory=dict)
     outputs: dict[str, Port] = field(default_factory=dict)
+    strobe: Port | None = None  # the design's output that is 1 when it samples the bus
     others: list[Port] = field(default_factory=list)
 
 
 def plain(name: str) -> str:
-    """A name in lower case, without what says nothing."""
-    return AFFIXES.sub("", AFFIXES.sub("", name.lower()))
+    """A name in lower case with words separated, without what says nothing."""
+    name = WORDS.sub("_", name).lower()
+    while (less := AFFIXES.sub("", name)) != name and less:
+        name = less
+    return name
 
 
 def matched(ports: Iterable[Port], circuit: Circuit) -> Match:
@@ -97,7 +117,10 @@ def matched(ports: Iterable[Port], circuit: Circuit) -> Match:
                 found[name] = port
                 break
         else:
-            match.others.append(port)
+            if port.width == 1 and not port.is_input and STROBE.fullmatch(plain(port.name)):
+                match.strobe = port
+            else:
+                match.others.append(port)
     return match
 
 
@@ -150,7 +173,11 @@ def parts_of(match: Match) -> dict[str, str]:
         parts["given_overload_count"] = "overload_count != 2'd3"
     for name in (it for it in OUTPUTS if it in match.outputs):
         port = match.outputs[name].name
-        when = "" if not name.startswith("frame_") else "!received || " if RECEIVED.match(port) else "!has_frame || "
+        when = ""
+        if name.startswith("frame_"):
+            when = "!received || " if RECEIVED.match(plain(port)) else "!has_frame || "
+        elif name == "drive" and match.strobe:
+            when = f"!dut.{match.strobe.name} || "  # it changes between two bit times
         parts[f"same_{name}"] = f"{when}gates.{name} == dut.{port}"
     return parts
 
@@ -160,7 +187,10 @@ def gates_pins(match: Match, circuit: Circuit) -> list[str]:
     lines = [".clock(clock)"]
     for name, width in circuit.inputs.items():
         tied = "1'b1" if name == "enable" else f"{width}'d0"
-        lines.append(f".{name}({name if name in match.inputs or name in NEEDED else tied})")
+        taken = name if name in match.inputs or name in NEEDED else tied
+        if name == "enable" and match.strobe:
+            taken = f"dut.{match.strobe.name}"
+        lines.append(f".{name}({taken})")
     return lines
 
 

@@ -109,6 +109,8 @@ class Model:
         inputs = {self.bit_time.literal(key) >> 1 for keys in self.netlist.inputs.values() for key in keys}
         made["others"] = sorted(others, key=lambda signal: signal not in inputs)
         made["named"] = [sum(signal in inputs for signal in others)]
+        ends = set(self.cone(own["enable"]))  # a bit time: these inputs may change within one
+        made["pacing"] = [int(signal in ends) for signal in made["others"]]
         made |= {"key": [], "watched": []}
         made["signals"] = [self.gates.signals]
         made["gates"] = [number for signal, sides in self.gates.gates.items() for number in (signal, *sides)]

@@ -2,12 +2,15 @@
 
 from __future__ import annotations
 
+import contextlib
+import io
 import pathlib
 import re
 import shutil
 import sys
 import tempfile
 import unittest
+from unittest import mock
 
 from tests.test_hold import Files
 from tests.test_play import DESIGN, SAME, wiring
@@ -15,6 +18,7 @@ from tests.test_play import DESIGN, SAME, wiring
 FOLDER = pathlib.Path(__file__).resolve().parent.parent
 sys.path.insert(0, str(FOLDER))
 
+from finding import progress
 from finding.conditions import Atom, named_atoms
 from finding.wiring import instance, ports, with_lines
 from finding.writing import without_part
@@ -33,6 +37,13 @@ MEMORY = """module small(input clock, input reset, input bus, output drive, outp
         state <= 4'd5;
     end
 endmodule"""
+# the last eight levels
+HISTORY = """module history(input clock, input reset, input bus, output drive);
+    reg [7:0] levels;
+    assign drive = 1'b1;
+    always @(posedge clock) levels <= reset ? 8'hff : {levels[6:0], bus};
+endmodule
+"""
 # a constant of more than 32 bits
 WIDE = """library ieee;
 use ieee.std_logic_1164.all;
@@ -85,6 +96,12 @@ class Refusals(Files):
         self.prints(ran, 1, "holds_state depends on an input of its bit time, so it is no guess about registers")
 
     @unittest.skipUnless(has_tools(), "a tool is not installed")
+    def test_a_mapping_that_was_found(self) -> None:
+        text = with_lines(read_relation(wiring(SAME), "wiring.v"), instance("words_count")).text
+        ran = self.run_hold("--find", "--circuit", CIRCUIT, self.put("found.v", text), self.put("small.v", DESIGN))
+        self.prints(ran, 1, "has the module riddlesage_words, which --find adds")
+
+    @unittest.skipUnless(has_tools(), "a tool is not installed")
     def test_a_design_that_differs(self) -> None:
         files = (self.put("wiring.v", wiring(SAME)), self.put("small.v", DESIGN))
         ran = self.run_hold("--find", "--circuit", CIRCUIT, *files)
@@ -123,11 +140,34 @@ class Searches(Files):
         self.assertRegex(made, r"(?s)output holds_phase,.*wire holds_place;")
 
     def test_a_difference_that_no_play_reaches(self) -> None:
-        status, printed, _ = self.found("level ^ (age == 20'hfffff)", {})
+        status, printed, made = self.found("level ^ (age == 20'hfffff)", {})
         self.assertEqual(status, 4, printed)
         self.assertRegex(printed, r"(?m)^given up: .*dut\.age")
-        self.assertRegex(printed, r"(?m)^  played: [\d,]+ bit times of this phase, 0 with these registers$")
+        self.assertRegex(printed, r"(?m)^  registers: .*dut\.age 0x[\da-f]+ then 0x[\da-f]+$")
+        self.assertIn("\n  same_drive fails: dut.drive ", printed)
+        self.assertRegex(printed, r"(?m)^  played: [\d,]+ states of this phase, 0 with these registers$")
         self.assertIn("\nnot proved: same_drive; no difference was found either\n", printed)
+        self.assertRegex(made, r"(?m)^    wire guess_age =")
+        self.assertNotIn("holds_age", made)
+        # what is left is a register mapping
+        ran = self.run_hold("--circuit", CIRCUIT, *(str(self.room / it) for it in ("made.v", "copied.v", "small.v")))
+        self.assertEqual(ran.returncode, 1, ran)
+        self.assertRegex(ran.stdout, r"\nreset: proved(.*\n)*outputs: counterexample(.*\n)*step: proved")
+
+
+class Waiting(unittest.TestCase):
+    def test_lines_are_some_seconds_apart(self) -> None:
+        shown = io.StringIO()
+        with mock.patch.object(progress.time, "monotonic", side_effect=[104.0, 111.0, 112.0, 130.0]):
+            with contextlib.redirect_stderr(shown):
+                made = progress.Progress(100.0)
+                made.show("playing")
+                made.show("proving", 1200, 34)
+                made.show("proving", 1300, 34)
+                made.show("guessing")
+        lines = ["hold: 11 s: proving the outputs, 1,200 questions answered, 34 guesses left"]
+        lines.append("hold: 30 s: looking for what is equal in all states that were played")
+        self.assertEqual(shown.getvalue().splitlines(), lines)
 
 
 class Words(unittest.TestCase):
@@ -173,6 +213,14 @@ class Words(unittest.TestCase):
 
 @unittest.skipUnless(has_tools(), "a tool is not installed")
 class Mappings(Files):
+    def test_parts_with_loops(self) -> None:
+        mapping = str(FOLDER / "tests" / "loops.v")
+        ran = self.run_hold("--circuit", CIRCUIT, mapping, self.put("history.v", HISTORY))
+        self.assertRegex(ran.stdout, r"\nreset: proved(.*\n)*step: proved", ran)
+        broken = self.put("history.v", HISTORY.replace("[6:0]", "[7:1]"))
+        ran = self.run_hold("--circuit", CIRCUIT, mapping, broken)
+        self.assertRegex(ran.stdout, r"\nstep: counterexample(.*\n)*  holds_statement fails: .*dut\.levels", ran)
+
     def hold_with(self, part: str, design: str) -> str:
         text = wiring({"same_drive": "gates.drive == dut.drive", "holds_row": part})
         ran = self.run_hold("--circuit", CIRCUIT, self.put("wiring.v", text), design)

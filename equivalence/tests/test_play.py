@@ -27,7 +27,7 @@ from peer.controller import controller
 from peer.verilog import written
 from playing import building
 from playing.building import simulator
-from playing.drafting import Port, matched
+from playing.drafting import Port, draft, matched
 from playing.keeping import FAMILY, case, obstacle, transcript
 from playing.model import Model
 from playing.printing import difference, verdict
@@ -127,6 +127,14 @@ class Plays(Played):
         text = text.replace("riddlesage_c", f"wire is_last = quantum == 3'd4; {divider} riddlesage_c", 1)
         ran = self.run_hold("--play", self.put("wiring.v", text), self.put("small.v", DESIGN))
         self.assertRegex(ran.stdout, r"fail at \d: drove 1 not 0; stuffed\S* 3, sender; Arbitration\n")
+
+    def test_bit_times_that_wait_for_an_input(self) -> None:
+        divider = "reg [2:0] quantum; always @(posedge clock) quantum <= reset ? 3'd0 : quantum + {2'd0, tick};"
+        text = wiring({**SAME, **SILENCE}).replace(".enable(1'b1)", ".enable(is_last)")
+        text = text.replace("input waits,", "input tick, input waits,")
+        text = text.replace("riddlesage_c", f"wire is_last = tick && quantum == 3'd4; {divider} riddlesage_c", 1)
+        ran = self.run_hold("--play", "--seconds", "1", self.put("wiring.v", text), self.put("small.v", DESIGN))
+        self.assertRegex(ran.stdout, r"\nno difference in \d+,[\d,]+ bit times\n$")
 
     def test_what_depends_on_registers_before_the_reset(self) -> None:
         forgets = "reg other; always @(posedge clock) begin drive <= 1; other <= other; end assign state = other;"
@@ -273,6 +281,24 @@ class Drafts(Files):
         names |= {"integrating": "rst_integrate", "overload_count": "ovl_num"}
         self.assertEqual({name: it.name for name, it in match.inputs.items()}, names)
         self.assertEqual([it.name for it in match.others], ["tec"])
+
+    def test_prefixes_suffixes_and_words(self) -> None:
+        inputs = {"rejoin_i": "integrating", "tx_frame_ide_in": "wait_extended", "i_ovl_write": "overload_request"}
+        inputs |= {"txReqData": "", "canRxIn": "bus", "req_i": "waits", "reqDlc": "wait_dlc"}
+        outputs = {"evt_o": "event_code", "fr_id_o": "frame_identifier", "rcvd_rtr": "frame_remote", "canTx": "drive"}
+        outputs |= {"msgDataOut": "frame_data", "status_rec": "rec", "sample_o": ""}
+        ports = [Port(name, 1, True) for name in inputs] + [Port(name, 1, False) for name in outputs]
+        match = matched(ports, read_circuit(written(controller(), MODULE, ""), "circuit.v"))
+        found = {port.name: name for names in (match.inputs, match.outputs) for name, port in names.items()}
+        self.assertEqual(found, {name: it for name, it in {**inputs, **outputs}.items() if it})
+        assert match.strobe
+        self.assertEqual(match.strobe.name, "sample_o")
+
+    def test_a_strobe_of_the_design(self) -> None:
+        ports = [Port("tick", 1, True), Port("sample", 1, False), Port("tx", 1, False)]
+        text = draft("small", ports, read_circuit(written(controller(), MODULE, ""), "circuit.v"))
+        for line in (".enable(dut.sample),", ".tick(enable)", "assign same_drive = !dut.sample || gates.drive == dut.tx;"):
+            self.assertIn(f" {line}\n", text)
 
     @unittest.skipUnless(has_tools(), "yosys or a C++ compiler is not installed")
     def test_a_draft_can_be_played(self) -> None:

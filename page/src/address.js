@@ -20,7 +20,8 @@ export async function packed(text) {
  */
 export async function unpacked(letters) {
   try {
-    return new TextDecoder('utf-8', { fatal: true }).decode(await unpackedBytes(letters.replaceAll('-', '+').replaceAll('_', '/')));
+    const bytes = await unpackedBytes(letters.replaceAll('-', '+').replaceAll('_', '/'));
+    return new TextDecoder('utf-8', { fatal: true }).decode(bytes);
   } catch {
     return null;
   }
@@ -34,16 +35,21 @@ export async function unpackedBytes(letters) {
   return through(Uint8Array.from(atob(letters), (letter) => letter.charCodeAt(0)), new DecompressionStream('deflate-raw'));
 }
 
-/** @param {Uint8Array} bytes @param {TransformStream} stream */
+/** @param {Uint8Array} bytes @param {ByteStream} stream */
 async function through(bytes, stream) {
   return new Uint8Array(await new Response(new Blob([bytes]).stream().pipeThrough(stream)).arrayBuffer());
 }
 
-/** The name of the view that an address names, and what it shows. */
+/**
+ * The name of the view that an address names, and what it shows.
+ * @param {string} hash
+ */
 export function parsed(hash) {
   const [name, ...rest] = hash.slice(1).split('&');
   return { name, what: Object.fromEntries(new URLSearchParams(rest.join('&'))) };
 }
+
+/** @typedef {Record<string, string | undefined>} Shown what an address says that a view shows, by names */
 
 /** @param {string} name @param {Record<string, string | number>} what */
 export function written(name, what) {
@@ -51,7 +57,10 @@ export function written(name, what) {
   return `#${name}${rest ? `&${rest}` : ''}`;
 }
 
-/** A whole number in an address, if one stands there. @param {string | undefined} text */
+/**
+ * A whole number in an address, if one stands there.
+ * @param {string | undefined} text
+ */
 export function numberIn(text) {
   return text !== undefined && /^\d{1,9}$/.test(text) ? Number(text) : undefined;
 }

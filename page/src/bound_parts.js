@@ -3,7 +3,8 @@
 const MESSAGE = /^(\S+ \S+ \S+ \S+) longest /;
 const LATEST = /^ {2}latest frame (\d+) /;
 const TIMES = /^ {2}microseconds (.+)$/;
-const PART = /^ {2}(jitter|blocking|earlier frames|before frames|hits|wire|less periods) (\d+)(?: bits (\d+))?(?: of (\S+ \S+ \S+ \S+)(?: name "([^"]*)")?)?$/;
+const KINDS = 'jitter|blocking|earlier frames|before frames|hits|wire|less periods';
+const PART = new RegExp(`^ {2}(${KINDS}) (\\d+)(?: bits (\\d+))?(?: of (\\S+ \\S+ \\S+ \\S+)(?: name "([^"]*)")?)?$`);
 
 /**
  * @typedef {object} Part of a bound
@@ -18,7 +19,8 @@ const PART = /^ {2}(jitter|blocking|earlier frames|before frames|hits|wire|less 
  * @typedef {object} Makings the parts of the bound of a message
  * @property {number} latest which frame of the busy period is the latest, counted from 0
  * @property {Part[]} parts in the order of the output
- * @property {number} later how many bit times after the first frame of the busy period the latest one is released: they are subtracted
+ * @property {number} later how many bit times after the first frame of the busy period the latest one is released: they
+ *   are subtracted
  * @property {string} times bound, deadline and slack in microseconds, as the output has them; empty if it has none
  */
 
@@ -37,6 +39,7 @@ export function linesBelow(answer, frame) {
 
 /** @param {string[]} lines below that of a message @returns {Makings} */
 export function makingsOf(lines) {
+  /** @type {Makings} */
   const makings = { latest: 0, parts: [], later: 0, times: '' };
   for (const line of lines) {
     const [, number] = LATEST.exec(line) ?? [];
@@ -45,7 +48,20 @@ export function makingsOf(lines) {
     if (number !== undefined) makings.latest = Number(number);
     else if (times !== undefined) makings.times = times;
     else if (words === 'less periods') makings.later = Number(bits);
-    else if (words !== undefined) makings.parts.push({ kind: words.split(' ')[0], count: bits === undefined ? null : Number(count), bits: Number(bits ?? count), frame, name });
+    else if (words !== undefined) makings.parts.push(partOf(words, count, bits, frame, name));
   }
   return makings;
+}
+
+/**
+ * @param {string} words what the part is
+ * @param {string} count or its length, if nothing is counted
+ * @param {string | undefined} bits
+ * @param {string} frame
+ * @param {string} name
+ * @returns {Part}
+ */
+function partOf(words, count, bits, frame, name) {
+  const [kind] = words.split(' ');
+  return { kind, count: bits === undefined ? null : Number(count), bits: Number(bits ?? count), frame, name };
 }

@@ -6,6 +6,9 @@ import { bytesIn, hatching, spansOf, valueOf } from './picture.js';
 import { FIELDS } from './words.js';
 
 /** @typedef {import('./core.js').Marks} Marks */
+/** @typedef {import('./bus_times.js').PortTimes} PortTimes */
+/** @typedef {import('./bus_times.js').ReceivedFrame} ReceivedFrame */
+/** @typedef {import('./picture.js').Span} Span */
 
 /** Levels and fields are drawn if a level has at least this many pixels. */
 const LEVEL_ROOM = 3;
@@ -18,21 +21,38 @@ const LETTER = 7.3;
 
 /** What is in view: the bit times from one on, and the pixels that they have. */
 export class Scale {
-  constructor(from, span, width) { Object.assign(this, { from, span, width }); }
+  /**
+   * @param {number} from a bit time
+   * @param {number} span in bit times
+   * @param {number} width in pixels
+   */
+  constructor(from, span, width) {
+    this.from = from;
+    this.span = span;
+    this.width = width;
+  }
 
   get end() { return this.from + this.span; }
 
   /** Whether there is space for single levels. */
   get isNear() { return this.width / this.span >= LEVEL_ROOM; }
 
+  /** @param {number} time */
   x(time) { return Math.round(((time - this.from) / this.span) * this.width * 10) / 10; }
 
-  /** The bit time at a pixel. */
+  /**
+   * The bit time at a pixel.
+   * @param {number} x
+   */
   timeAt(x) { return this.from + (x / this.width) * this.span; }
 
-  /** A bit time's left end, or that of the view. */
+  /**
+   * A bit time's left end, or that of the view.
+   * @param {number} time
+   */
   left(time) { return Math.max(this.x(time), -2); }
 
+  /** @param {number} time */
   right(time) { return Math.min(this.x(time), this.width + 2); }
 }
 
@@ -45,7 +65,7 @@ export class Scale {
  * @param {number} low
  * @param {Uint32Array} [dominant] the number of dominant levels before each, if the view may be that far away
  */
-export function wave(scale, count, level, high, low, dominant) {
+export function wave(scale, count, level, high, low, dominant = new Uint32Array()) {
   const start = Math.floor(scale.from);
   const end = Math.min(Math.ceil(scale.end), count);
   if (start >= end) return svg('path', { class: 'wave', d: '' });
@@ -55,6 +75,13 @@ export function wave(scale, count, level, high, low, dominant) {
   return svg('path', { class: 'wave', d: path });
 }
 
+/**
+ * @param {Scale} scale
+ * @param {Uint32Array} dominant
+ * @param {number} end
+ * @param {number} high
+ * @param {number} low
+ */
 function dense(scale, dominant, end, high, low) {
   let path = '';
   for (let pixel = 0; pixel < scale.width; pixel += 1) {
@@ -66,7 +93,13 @@ function dense(scale, dominant, end, high, low) {
   return path;
 }
 
-/** What a port does: a path for each kind, and a word if there is space. */
+/**
+ * What a port does: a path for each kind, and a word if there is space.
+ * @param {Scale} scale
+ * @param {PortTimes} port
+ * @param {number} y
+ * @param {number} height
+ */
 export function bands(scale, port, y, height) {
   const paths = DOES.map(() => '');
   const words = [];
@@ -84,7 +117,9 @@ export function bands(scale, port, y, height) {
     const width = Math.max(right - left, 1);
     paths[port.kinds[run]] += `M${left} ${y}h${width}v${height}h-${width}z`;
     const does = DOES[port.kinds[run]];
-    if (DOES_WORDS[does].short.length * LETTER + 6 < width) words.push(svg('text', { class: 'found', x: Math.max(left, 0) + 4, y: y + height - 6, 'data-does': does }, [DOES_WORDS[does].short]));
+    const { short } = DOES_WORDS[does];
+    if (short.length * LETTER + 6 >= width) continue;
+    words.push(svg('text', { class: 'found', x: Math.max(left, 0) + 4, y: y + height - 6, 'data-does': does }, [short]));
   }
   return [...paths.flatMap((d, kind) => (d ? [svg('path', { class: `does does-${DOES[kind]}`, d })] : [])), ...words];
 }
@@ -92,7 +127,7 @@ export function bands(scale, port, y, height) {
 /**
  * The fields of the frames in view as the port receives them, if there is space for levels.
  * @param {Scale} scale
- * @param {import('./bus_times.js').PortTimes} port
+ * @param {PortTimes} port
  * @param {number} y
  * @param {(levels: Uint8Array) => Marks} marks
  */
@@ -108,17 +143,28 @@ export function fieldBands(scale, port, y, marks) {
   return drawn;
 }
 
-/** What the levels of a frame are, asked of the proved code once they are drawn. */
+/**
+ * What the levels of a frame are, asked of the proved code once they are drawn.
+ * @param {PortTimes} port
+ * @param {[number, number]} frame its start and the bit time after it
+ * @param {(levels: Uint8Array) => Marks} marks
+ * @returns {ReceivedFrame}
+ */
 function heard(port, [start, end], marks) {
-  port.frames ??= new Map();
-  if (!port.frames.has(start)) {
-    const levels = port.seen(start, end);
-    port.frames.set(start, { levels, ...marks(levels) });
-  }
-  return port.frames.get(start);
+  const known = port.frames.get(start);
+  if (known) return known;
+  const levels = port.seen(start, end);
+  const frame = { levels, ...marks(levels) };
+  port.frames.set(start, frame);
+  return frame;
 }
 
-/** @param {Scale} scale @param {number} start that of the frame */
+/**
+ * @param {Scale} scale
+ * @param {number} start that of the frame
+ * @param {ReceivedFrame} wire
+ * @param {number} y
+ */
 function frameBands(scale, start, wire, y) {
   const drawn = [];
   for (const span of spansOf(wire.fields)) {
@@ -126,15 +172,27 @@ function frameBands(scale, start, wire, y) {
     const right = scale.right(start + span.to);
     if (right <= left) continue;
     const word = labelOf(wire, span, right - left);
-    const box = (name, top, height) => svg('rect', { class: `${name} field-${span.field}`, x: left, y: top, width: right - left, height });
-    const inside = [box('field', y, FIELD_BAND), box('field pale', y + FIELD_BAND, LEVEL_BAND), ...stuffHatches(scale, start, wire, span, y + FIELD_BAND)];
+    /** @param {string} name @param {number} top @param {number} height */
+    const box = (name, top, height) => {
+      return svg('rect', { class: `${name} field-${span.field}`, x: left, y: top, width: right - left, height });
+    };
+    /** @type {SVGElement[]} */
+    const inside = [
+      box('field', y, FIELD_BAND), box('field pale', y + FIELD_BAND, LEVEL_BAND),
+      ...stuffHatches(scale, start, wire, span, y + FIELD_BAND),
+    ];
     if (word) inside.push(svg('text', { class: 'label', x: Math.max(left, 0) + 3, y: y + 12 }, [word]));
     drawn.push(svg('g', { class: 'field-band', 'data-field': span.field }, inside));
   }
   return [...drawn, ...byteEnds(scale, start, wire, y + FIELD_BAND)];
 }
 
-/** The name of a field with its number, in the longest form that fits. */
+/**
+ * The name of a field with its number, in the longest form that fits; none if none does.
+ * @param {ReceivedFrame} wire
+ * @param {Span} span
+ * @param {number} room in pixels
+ */
 function labelOf(wire, span, room) {
   const { name, short } = FIELDS[span.field];
   const number = valueOf(wire, span);
@@ -142,6 +200,13 @@ function labelOf(wire, span, room) {
   return [...numbered, name, short].find((label) => label.length * LETTER + 5 <= room);
 }
 
+/**
+ * @param {Scale} scale
+ * @param {number} start that of the frame
+ * @param {ReceivedFrame} wire
+ * @param {Span} span
+ * @param {number} y
+ */
 function stuffHatches(scale, start, { stuffed }, { from, to }, y) {
   let path = '';
   const times = [];
@@ -155,12 +220,24 @@ function stuffHatches(scale, start, { stuffed }, { from, to }, y) {
   return path ? [svg('path', { class: 'hatch', d: path, 'data-times': times.join(' ') })] : [];
 }
 
+/**
+ * @param {Scale} scale
+ * @param {number} start that of the frame
+ * @param {ReceivedFrame} wire
+ * @param {number} y
+ */
 function byteEnds(scale, start, wire, y) {
   const path = bytesIn(wire).map((index) => `M${scale.x(start + index)} ${y}v${LEVEL_BAND}`).join('');
   return path ? [svg('path', { class: 'byte-end', d: path })] : [];
 }
 
-/** Arrows that point down to bit times, no two in one pixel. */
+/**
+ * Arrows that point down to bit times, no two in one pixel.
+ * @param {Scale} scale
+ * @param {Uint32Array} times
+ * @param {number} y
+ * @param {string} name of their class
+ */
 export function arrows(scale, times, y, name) {
   let path = '';
   let drawn = -9;
@@ -175,14 +252,24 @@ export function arrows(scale, times, y, name) {
   return path ? [svg('path', { class: name, d: path, 'data-times': shown.slice(0, 200).join(' ') })] : [];
 }
 
-/** The counters at the left, and their changes: of changes without space only the last, after the one before it. */
+/**
+ * The counters at the left, and their changes: of changes without space only the last, after the one before it.
+ * @param {Scale} scale
+ * @param {PortTimes} port
+ * @param {number} y
+ * @returns {SVGTextElement[]}
+ */
 export function counters(scale, port, y) {
+  /** @type {SVGTextElement[]} */
   const labels = [];
   let free = 0;
   const start = Math.min(Math.floor(scale.from), port.count - 1);
   if (start < 0) return labels;
+  /** @param {number} time */
   const words = (time) => `TEC ${port.transmit(time)} REC ${port.receive(time)}`;
+  /** @param {number} time */
   const room = (time) => words(time).length * 6.8 + 8;
+  /** @param {number} time @param {number} x */
   const put = (time, x) => {
     free = x + room(time);
     labels.push(svg('text', { class: 'place count', x: x + 2, y }, [words(time)]));
@@ -202,9 +289,16 @@ export function counters(scale, port, y) {
   return labels;
 }
 
-/** Lines at round bit times, and their numbers. */
+/**
+ * Lines at round bit times, and their numbers.
+ * @param {Scale} scale
+ * @param {number} y
+ * @param {number} height
+ * @param {boolean} isNumbered
+ */
 export function axis(scale, y, height, isNumbered) {
   const step = niceStep((scale.span / scale.width) * 80);
+  /** @type {SVGElement[]} */
   const ticks = [];
   for (let time = Math.ceil(scale.from / step) * step; time <= scale.end; time += step) {
     const x = scale.x(time);
@@ -218,5 +312,5 @@ export function axis(scale, y, height, isNumbered) {
 /** @param {number} least @returns {number} a step of 1, 2 or 5 and zeros that is no less */
 function niceStep(least) {
   const power = 10 ** Math.floor(Math.log10(Math.max(least, 1)));
-  return [1, 2, 5, 10].map((factor) => factor * power).find((step) => step >= least);
+  return [1, 2, 5, 10].map((factor) => factor * power).find((step) => step >= least) ?? 10 * power;
 }

@@ -1,8 +1,13 @@
 /** What the ports of a scenario do, bit time by bit time, as the proved code reports it. */
 import { TIME_BYTES } from './core.js';
 
+/** @typedef {import('./core.js').Marks} Marks */
+/** @typedef {{levels: Uint8Array} & Marks} ReceivedFrame the levels of a frame as a port sees them, and their fields */
+
 /** What a port does in a bit time, in the order in which the picture's key names it. */
-export const DOES = Object.freeze(['idle', 'sending', 'receiving', 'flag', 'passive', 'overload', 'delimiter', 'intermission', 'suspend', 'joining', 'off']);
+export const DOES = Object.freeze([
+  'idle', 'sending', 'receiving', 'flag', 'passive', 'overload', 'delimiter', 'intermission', 'suspend', 'joining', 'off',
+]);
 
 const SENDING = DOES.indexOf('sending');
 const RECEIVING = DOES.indexOf('receiving');
@@ -13,16 +18,34 @@ const LAST_IN_FRAME = 6;
 
 /** What a port does, as the place in DOES, by the number of its phase; in a frame its role decides. */
 const KINDS = Uint8Array.from(
-  ['idle', 'joining', '', '', '', '', '', 'flag', 'passive', 'overload', 'delimiter', 'delimiter', 'intermission', 'suspend', 'off'], (name) => DOES.indexOf(name),
+  [
+    'idle', 'joining', '', '', '', '', '', 'flag', 'passive', 'overload', 'delimiter', 'delimiter', 'intermission', 'suspend', 'off',
+  ].map((name) => DOES.indexOf(name)),
 );
 
 /** The numbers of the events of a bit time. */
-export const BROUGHT = Object.freeze({ sent: 1, received: 2, lost: 3, firstError: 4, lastError: 8, overload: 9, off: 10, recovered: 11 });
+export const BROUGHT = Object.freeze({
+  sent: 1, received: 2, lost: 3, firstError: 4, lastError: 8, overload: 9, off: 10, recovered: 11,
+});
 
 /**
- * The bit times in which a port changes what it does, in which a counter changes, which have an event, and in which it alone sees the opposite level.
- * @param {Uint8Array} times what the proved code reports of it
+ * @typedef {object} PortIndex bit times of a port that are looked for
+ * @property {Uint32Array} starts those in which it begins to do another thing
+ * @property {Uint8Array} kinds what it does from each of these on, as the place in DOES
+ * @property {Uint32Array} moves those in which a counter has changed
+ * @property {Uint32Array} marks those with an event
+ * @property {Uint32Array} blind those in which it alone sees the opposite level
+ */
+
+/** @type {Readonly<PortIndex>} */
+const NO_INDEX = Object.freeze({
+  starts: new Uint32Array(), kinds: new Uint8Array(), moves: new Uint32Array(), marks: new Uint32Array(), blind: new Uint32Array(),
+});
+
+/**
+ * @param {Uint8Array} times what the proved code reports of a port
  * @param {Uint8Array} levels those that are recorded
+ * @returns {PortIndex}
  */
 export function indexOf(times, levels) {
   const port = new PortTimes(times);
@@ -43,55 +66,81 @@ export function indexOf(times, levels) {
     if (port.brought(time) !== 0) marks.push(time);
     if (port.saw(time) !== levels[time]) blind.push(time);
   }
-  return { starts: Uint32Array.from(starts), kinds: Uint8Array.from(kinds), moves: Uint32Array.from(moves), marks: Uint32Array.from(marks), blind: Uint32Array.from(blind) };
+  return {
+    starts: Uint32Array.from(starts), kinds: Uint8Array.from(kinds), moves: Uint32Array.from(moves),
+    marks: Uint32Array.from(marks), blind: Uint32Array.from(blind),
+  };
 }
 
 /** One port. */
 export class PortTimes {
   /**
    * @param {Uint8Array} bytes
-   * @param {ReturnType<typeof indexOf>} [index]
+   * @param {PortIndex} [index]
    */
-  constructor(bytes, index) {
+  constructor(bytes, index = NO_INDEX) {
     this.count = bytes.length / TIME_BYTES;
     this.bytes = bytes;
-    if (index) this.take(index);
-  }
-
-  /** @param {ReturnType<typeof indexOf>} index */
-  take(index) {
-    Object.assign(this, index);
-    const among = (first, last) => this.marks.filter((time) => this.brought(time) >= first && this.brought(time) <= last);
-    this.losses = among(BROUGHT.lost, BROUGHT.lost);
-    this.errors = among(BROUGHT.firstError, BROUGHT.lastError);
+    this.starts = index.starts;
+    this.kinds = index.kinds;
+    this.moves = index.moves;
+    this.marks = index.marks;
+    this.blind = index.blind;
+    this.losses = this.marked(BROUGHT.lost, BROUGHT.lost);
+    this.errors = this.marked(BROUGHT.firstError, BROUGHT.lastError);
     /** The bit times at the ends of frames that it sent or received: those of the entries of its log, in their order. */
-    this.heard = among(BROUGHT.sent, BROUGHT.received);
+    this.heard = this.marked(BROUGHT.sent, BROUGHT.received);
+    /** @type {Map<number, ReceivedFrame>} what is known of its frames that were drawn, by their starts */
+    this.frames = new Map();
   }
 
+  /**
+   * The bit times with an event among these.
+   * @param {number} first
+   * @param {number} last
+   */
+  marked(first, last) { return this.marks.filter((time) => this.brought(time) >= first && this.brought(time) <= last); }
+
+  /** @param {number} time */
   transmit(time) { return this.bytes[time * TIME_BYTES] + 256 * this.bytes[time * TIME_BYTES + 1]; }
 
+  /** @param {number} time */
   receive(time) { return this.bytes[time * TIME_BYTES + 2] + 256 * this.bytes[time * TIME_BYTES + 3]; }
 
+  /** @param {number} time */
   stage(time) { return this.bytes[time * TIME_BYTES + 4]; }
 
+  /** @param {number} time */
   sends(time) { return this.bytes[time * TIME_BYTES + 5] === 1; }
 
+  /** @param {number} time */
   drove(time) { return this.bytes[time * TIME_BYTES + 6]; }
 
+  /** @param {number} time */
   saw(time) { return this.bytes[time * TIME_BYTES + 7]; }
 
+  /** @param {number} time */
   brought(time) { return this.bytes[time * TIME_BYTES + 8]; }
 
   /** @param {number} time @returns {number} the stretch in which it does one thing */
   runAt(time) { return firstFrom(this.starts, time + 1) - 1; }
 
-  /** Whether it is in a frame, after its start. */
+  /**
+   * Whether it is in a frame, after its start.
+   * @param {number} time
+   */
   isInFrame(time) { return time < this.count && this.stage(time) >= FIRST_IN_FRAME && this.stage(time) <= LAST_IN_FRAME; }
 
-  /** Whether a frame begins here: its phase is the one before, and the next one is in the frame. */
+  /**
+   * Whether a frame begins here: its phase is the one before, and the next one is in the frame.
+   * @param {number} time
+   */
   isStart(time) { return !this.isInFrame(time) && this.isInFrame(time + 1); }
 
-  /** Whether it sends in this bit time, that of a start of frame too. */
+  /**
+   * Whether it sends in this bit time, that of a start of frame too.
+   * @param {number} time
+   */
   isSender(time) { return this.sends(this.isStart(time) ? time + 1 : time); }
 
   /** @param {number} time @returns {number} the place in DOES of what it does */
@@ -107,8 +156,10 @@ export class PortTimes {
    */
   frameAt(time) {
     let run = this.runAt(time);
+    /** @param {number} at */
     const isFrame = (at) => this.kinds[at] === SENDING || this.kinds[at] === RECEIVING;
     if (run < 0 || !isFrame(run)) return null;
+    /** @param {number} at */
     const goesOn = (at) => at > 0 && !this.isStart(this.starts[at]) && isFrame(at);
     while (goesOn(run)) run -= 1;
     const start = this.starts[run];
@@ -137,12 +188,14 @@ export class BusTimes {
     for (let time = 0; time < levels.length; time += 1) this.dominant[time + 1] = this.dominant[time] + 1 - levels[time];
     this.hits = new Uint32Array();
     this.awaited = count;
+    /** @type {Set<number>} the ports that have been asked for */
+    this.asked = new Set();
   }
 
   get count() { return this.levels.length; }
 
   /** @returns {Array<PortTimes>} those that are there */
-  get known() { return this.ports.filter((port) => port !== null); }
+  get known() { return this.ports.flatMap((port) => port ?? []); }
 
   /** @param {number} node @param {PortTimes} port */
   put(node, port) {
@@ -157,8 +210,8 @@ export class BusTimes {
     for (let time = 0; time < this.count; time += 1) if (this.driven[time] !== this.levels[time]) yield time;
   }
 
-  /** @param {number} node @param {number} time */
-  isBlind(node, time) { return this.ports[node].saw(time) !== this.levels[time]; }
+  /** @param {PortTimes} port @param {number} time */
+  isBlind(port, time) { return port.saw(time) !== this.levels[time]; }
 
   /** @param {number} time */
   isHit(time) { return this.hits[firstFrom(this.hits, time)] === time; }

@@ -17,13 +17,15 @@ export const DOES_WORDS = Object.freeze({
 
 /** By the numbers of phases. */
 export const STAGES = Object.freeze([
-  'idle', 'joining', 'stuffed part of a frame', 'CRC delimiter', 'ACK slot', 'ACK delimiter', 'end of frame', 'active error flag', 'passive error flag',
-  'overload flag', 'after a flag', 'delimiter', 'intermission', 'suspend transmission', 'bus off',
+  'idle', 'joining', 'stuffed part of a frame', 'CRC delimiter', 'ACK slot', 'ACK delimiter', 'end of frame',
+  'active error flag', 'passive error flag', 'overload flag', 'after a flag', 'delimiter', 'intermission',
+  'suspend transmission', 'bus off',
 ]);
 
 /** By the numbers of the events of a bit time. */
 export const BROUGHT_WORDS = Object.freeze([
-  '', 'frame sent', 'frame received', 'arbitration lost', 'bit error', 'stuff error', 'CRC error', 'form error', 'ACK error', 'overload flag begins', 'goes bus off', 'back from bus off',
+  '', 'frame sent', 'frame received', 'arbitration lost', 'bit error', 'stuff error', 'CRC error', 'form error', 'ACK error',
+  'overload flag begins', 'goes bus off', 'back from bus off',
 ]);
 
 /** The numbers of the fields about which more is shown. */
@@ -34,11 +36,14 @@ const IN_PORT = ['', '.key', '.queue', '.queue[#]', '.log', '.join', '.hold'];
 const LISTS = ['at', 'in', 'view'];
 
 const WHY = Object.freeze([
-  'must be a TOML document in UTF-8.', 'a field at the top must be version, bits or port; in version 1 also at, in or view.', 'must be 1 or 2.', 'must be 0 to 1000000 bit times.',
-  'must be an array of 1 to 64 tables, [[port]].', 'must be a table, [[port]].', 'a field of this table must be queue, log, join or hold.', 'must be an array.',
-  'must be a frame text in version 1; in version 2 an array of a time, 0 to 1000000, and a frame text.', 'must be 0 to 65536 entries.', 'must be true or false.',
-  'must be 0, 1 or 2 overload frames.', 'must be an array of times.', 'must be an array of [attempt, offset].', 'must be an array of [time, node].',
-  'must be a time, a whole number above the preceding one.', 'must be [attempt, offset], above the preceding one.', 'must be [time, node] with the number of a port, above the preceding one.', '',
+  'must be a TOML document in UTF-8.', 'a field at the top must be version, bits or port; in version 1 also at, in or view.',
+  'must be 1 or 2.', 'must be 0 to 1000000 bit times.', 'must be an array of 1 to 64 tables, [[port]].',
+  'must be a table, [[port]].', 'a field of this table must be queue, log, join or hold.', 'must be an array.',
+  'must be a frame text in version 1; in version 2 an array of a time, 0 to 1000000, and a frame text.',
+  'must be 0 to 65536 entries.', 'must be true or false.', 'must be 0, 1 or 2 overload frames.',
+  'must be an array of times.', 'must be an array of [attempt, offset].', 'must be an array of [time, node].',
+  'must be a time, a whole number above the preceding one.', 'must be [attempt, offset], above the preceding one.',
+  'must be [time, node] with the number of a port, above the preceding one.', '',
 ]);
 
 /**

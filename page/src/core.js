@@ -91,6 +91,7 @@ class Rooms {
  */
 function guarded(exports) {
   let broken = false;
+  /** @type {Record<string, (...given: number[]) => number>} */
   const calls = {};
   for (const [name, call] of Object.entries(exports)) {
     if (typeof call !== 'function') continue;
@@ -108,10 +109,12 @@ function guarded(exports) {
 export class Core {
   /** @param {WebAssembly.Exports} exports */
   constructor(exports) {
+    const { memory, __heap_base: base } = exports;
+    if (!(memory instanceof WebAssembly.Memory && base instanceof WebAssembly.Global)) throw new Error('the module has no memory');
     this.calls = guarded(exports);
-    this.memory = new Uint8Array(exports.memory.buffer);
-    this.view = new DataView(exports.memory.buffer);
-    this.rooms = new Rooms(Number(exports.__heap_base.value));
+    this.memory = new Uint8Array(memory.buffer);
+    this.view = new DataView(memory.buffer);
+    this.rooms = new Rooms(Number(base.value));
     if (this.rooms.next > this.memory.length) throw new Error('the module has too little memory');
   }
 
@@ -270,7 +273,10 @@ export class Core {
     return { number: this.number(at), element: this.number(at + 8), field: this.view.getUint8(at + 16) };
   }
 
-  /** The lines that a call has written, if it has done what it says. @param {number} answer */
+  /**
+   * The lines that a call has written, if it has done what it says.
+   * @param {number} answer
+   */
   answered(answer) {
     return answer === ANSWER.done ? this.written() : new Uint8Array();
   }

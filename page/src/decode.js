@@ -1,7 +1,7 @@
 /** The view that finds the frames and faults in a trace. */
 import { numberIn, packed, unpacked } from './address.js';
 import { ANSWER, MOST_BYTES } from './core.js';
-import { byId, download, html } from './draw.js';
+import { buttonById, byId, closestTo, download, html, inputById, textById } from './draw.js';
 import { Findings } from './findings.js';
 import { Timeline } from './timeline.js';
 import { FAULTS, HEARD_WORDS, counted } from './words.js';
@@ -30,12 +30,13 @@ export class DecodeView {
   /** @param {import('./core.js').Core} core */
   constructor(core) {
     this.core = core;
-    this.typed = byId('trace-text');
+    this.typed = textById('trace-text');
     this.picked = -1;
     this.page = 0;
     this.answers = 0;
     /** @type {import('./timeline.js').Traced | null} */
     this.traced = null;
+    this.bytes = new Uint8Array();
     this.lines = new Uint8Array();
     this.timeline = new Timeline(byId('timeline'), (line) => this.pick(line));
     this.wires = new WireView(byId('decode-wire'), byId('decode-level'), byId('decode-fields'));
@@ -47,22 +48,25 @@ export class DecodeView {
   listen() {
     this.typed.addEventListener('input', () => this.showTyped());
     this.typed.addEventListener('paste', (event) => this.paste(event));
-    byId('trace-file').addEventListener('change', (event) => this.showFile(event.target.files[0]));
+    const choice = inputById('trace-file');
+    choice.addEventListener('change', () => this.showFile(choice.files?.[0]));
     byId('trace-example').addEventListener('click', () => {
       this.typed.value = EXAMPLE;
       this.showTyped();
     });
     byId('trace-save').addEventListener('click', () => download('trace.txt', 'text/plain', this.bytes));
-    byId('answer-download').addEventListener('click', () => download('answer.txt', 'text/plain', new TextDecoder().decode(this.lines)));
+    const lines = () => new TextDecoder().decode(this.lines);
+    byId('answer-download').addEventListener('click', () => download('answer.txt', 'text/plain', lines()));
     this.listenToDrops(byId('panel-decode'));
     const actions = {
       'zoom-in': () => this.timeline.zoom(0.5), 'zoom-out': () => this.timeline.zoom(2), 'zoom-all': () => this.timeline.whole(),
-      earlier: () => this.timeline.pan(-0.5), later: () => this.timeline.pan(0.5), 'previous-found': () => this.step(-1), 'next-found': () => this.step(1),
-      'next-fault': () => this.nextFault(), 'page-back': () => this.turn(-1), 'page-on': () => this.turn(1),
+      earlier: () => this.timeline.pan(-0.5), later: () => this.timeline.pan(0.5),
+      'previous-found': () => this.step(-1), 'next-found': () => this.step(1), 'next-fault': () => this.nextFault(),
+      'page-back': () => this.turn(-1), 'page-on': () => this.turn(1),
     };
     for (const [id, action] of Object.entries(actions)) byId(id).addEventListener('click', action);
     byId('found-list').addEventListener('click', (event) => {
-      const row = event.target.closest('tr');
+      const row = closestTo(event, 'tr');
       if (row) this.pick(Number(row.dataset.line));
     });
   }
@@ -70,13 +74,13 @@ export class DecodeView {
   /** @param {HTMLElement} panel onto which files may be dropped */
   listenToDrops(panel) {
     panel.addEventListener('dragover', (event) => {
-      if (!event.dataTransfer.types.includes('Files')) return;
+      if (!event.dataTransfer?.types.includes('Files')) return;
       event.preventDefault();
       panel.classList.add('dropping');
     });
     for (const end of ['dragleave', 'drop']) panel.addEventListener(end, () => panel.classList.remove('dropping'));
     panel.addEventListener('drop', (event) => {
-      const [file] = event.dataTransfer.files;
+      const file = event.dataTransfer?.files[0];
       if (!file) return;
       event.preventDefault();
       this.showFile(file);
@@ -90,7 +94,7 @@ export class DecodeView {
 
   /** @param {ClipboardEvent} event */
   paste(event) {
-    const text = event.clipboardData.getData('text');
+    const text = event.clipboardData?.getData('text') ?? '';
     if (text.length <= MOST_TYPED) return;
     // the field would be slow with so long a text
     event.preventDefault();
@@ -114,7 +118,8 @@ export class DecodeView {
   /** @param {Uint8Array | null} bytes none if there are too many */
   show(bytes) {
     if (!bytes || bytes.length > MOST_BYTES) {
-      this.clear(`The trace is too long: this page takes up to ${counted(MOST_BYTES, 'byte')}. The program canbit decodes longer ones.`);
+      const most = `this page takes up to ${counted(MOST_BYTES, 'byte')}`;
+      this.clear(`The trace is too long: ${most}. The program canbit decodes longer ones.`);
       return;
     }
     this.bytes = bytes;
@@ -132,20 +137,27 @@ export class DecodeView {
     this.traced = { levels, findings, endOf: this.endsOf(levels, findings) };
     this.timeline.show(this.traced);
     byId('decode-shown').hidden = levels.length === 0;
-    byId('answer-download').disabled = findings.count === 0;
+    buttonById('answer-download').disabled = findings.count === 0;
     this.timeline.draw();
     if (findings.count > 0) this.pick(0, false);
     else this.pickNone();
   }
 
-  /** What the view shows, for an address; nothing if that is too long. */
+  /**
+   * What the view shows, for an address; nothing if that is too long.
+   * @returns {Promise<Record<string, string | number> | null>}
+   */
   async what() {
     if (this.bytes.length > MOST_TYPED) return null;
-    const place = this.picked >= 0 ? { place: this.traced.findings.starts[this.picked] } : {};
-    return { trace: await packed(new TextDecoder().decode(this.bytes)), ...place };
+    const place = this.picked >= 0 ? this.traced?.findings.starts[this.picked] : undefined;
+    const trace = await packed(new TextDecoder().decode(this.bytes));
+    return place === undefined ? { trace } : { trace, place };
   }
 
-  /** Shows what an address says. @param {Record<string, string>} what */
+  /**
+   * Shows what an address says.
+   * @param {import('./address.js').Shown} what
+   */
   async open(what) {
     const text = what.trace === undefined ? null : await unpacked(what.trace);
     if (text === null) return;
@@ -177,7 +189,8 @@ export class DecodeView {
    */
   reportWhole(levels, findings, took) {
     const line = byId('decode-reported');
-    line.textContent = `${counted(findings.count - findings.faults, 'frame')} and ${counted(findings.faults, 'fault')} in ${counted(levels.length, 'level')}, decoded in ${Math.ceil(took)} ms.`;
+    const found = `${counted(findings.count - findings.faults, 'frame')} and ${counted(findings.faults, 'fault')}`;
+    line.textContent = `${found} in ${counted(levels.length, 'level')}, decoded in ${Math.ceil(took)} ms.`;
     line.dataset.took = String(took);
     this.answers += 1;
     line.dataset.answers = String(this.answers);
@@ -194,7 +207,8 @@ export class DecodeView {
     return (line) => {
       if (ends[line] === 0) {
         const start = findings.starts[line];
-        ends[line] = findings.isFault[line] ? findings.at(line).place + 1 : start + this.core.markCount(levels.subarray(start, start + 157));
+        const marked = () => start + this.core.markCount(levels.subarray(start, start + 157));
+        ends[line] = findings.isFault[line] ? findings.at(line).place + 1 : marked();
       }
       return ends[line];
     };
@@ -206,14 +220,16 @@ export class DecodeView {
    * @param {boolean} [zooms] whether the time line moves to it
    */
   pick(line, zooms = true) {
-    const { findings, levels } = this.traced;
+    if (!this.traced) return;
+    const { findings, levels, endOf } = this.traced;
     this.picked = line;
     if (zooms) this.timeline.pick(line);
     this.page = Math.floor(line / PAGE);
     this.list();
     const found = findings.at(line);
-    byId('found-words').replaceChildren(html('strong', {}, [`${line + 1} of ${findings.count.toLocaleString('en')}: `]), ...foundWords(found));
-    this.wires.show(wireOf(this.core, levels, found, this.traced.endOf(line)));
+    const number = html('strong', {}, [`${line + 1} of ${findings.count.toLocaleString('en')}: `]);
+    byId('found-words').replaceChildren(number, ...foundWords(found));
+    this.wires.show(wireOf(this.core, levels, found, endOf(line)));
     byId('found-shown').hidden = false;
     this.wires.draw();
     this.enableSteps();
@@ -230,11 +246,11 @@ export class DecodeView {
 
   enableSteps() {
     const count = this.traced?.findings.count ?? 0;
-    byId('previous-found').disabled = this.picked <= 0;
-    byId('next-found').disabled = this.picked + 1 >= count;
-    byId('next-fault').disabled = (this.traced?.findings.faults ?? 0) === 0;
-    byId('page-back').disabled = this.page === 0;
-    byId('page-on').disabled = (this.page + 1) * PAGE >= count;
+    buttonById('previous-found').disabled = this.picked <= 0;
+    buttonById('next-found').disabled = this.picked + 1 >= count;
+    buttonById('next-fault').disabled = (this.traced?.findings.faults ?? 0) === 0;
+    buttonById('page-back').disabled = this.page === 0;
+    buttonById('page-on').disabled = (this.page + 1) * PAGE >= count;
   }
 
   /** @param {number} by */
@@ -244,6 +260,7 @@ export class DecodeView {
 
   /** The next fault after the picked finding, or otherwise the first. */
   nextFault() {
+    if (!this.traced) return;
     const { isFault } = this.traced.findings;
     const next = isFault.indexOf(1, this.picked + 1);
     this.pick(next >= 0 ? next : isFault.indexOf(1));
@@ -259,12 +276,14 @@ export class DecodeView {
   /** Fills in the page of the list. */
   list() {
     const findings = this.traced?.findings;
+    const count = findings?.count ?? 0;
     const first = this.page * PAGE;
-    const last = Math.min(first + PAGE, findings?.count ?? 0);
+    const last = Math.min(first + PAGE, count);
     const rows = [];
-    for (let line = first; line < last; line += 1) rows.push(this.listRow(line, findings.at(line)));
+    for (let line = first; findings && line < last; line += 1) rows.push(this.listRow(line, findings.at(line)));
     byId('found-list').replaceChildren(...rows);
-    byId('page-reported').textContent = last > 0 ? `${(first + 1).toLocaleString('en')} to ${last.toLocaleString('en')} of ${findings.count.toLocaleString('en')}` : '';
+    const shown = `${(first + 1).toLocaleString('en')} to ${last.toLocaleString('en')} of ${count.toLocaleString('en')}`;
+    byId('page-reported').textContent = last > 0 ? shown : '';
   }
 
   /**
@@ -320,6 +339,7 @@ function wireOf(core, levels, found, end) {
  * @returns {Array<string | Node>}
  */
 function badByte(bytes, place) {
+  /** @param {number} from @param {number} to */
   const around = (from, to) => new TextDecoder('latin1').decode(bytes.subarray(Math.max(from, 0), to)).replaceAll('\n', ' ');
   return [
     html('strong', {}, [`Byte ${place.toLocaleString('en')} is no level`]), ': 0, 1, a space or a line end was expected. ',

@@ -1,30 +1,47 @@
 /** The text of a document: typed, pasted, opened as a file and saved as one. */
 import { MOST_DOCUMENT } from './core.js';
-import { byId, download, html } from './draw.js';
+import { byId, download, html, inputById, textById } from './draw.js';
 import { counted } from './words.js';
+
+/** @typedef {import('./draw.js').Inside} Inside */
+
+/**
+ * @typedef {object} DocumentKind
+ * @property {string} view whose name begins those of its elements
+ * @property {string} what the name of the text
+ * @property {string} program that reads it
+ * @property {number} most letters of the field, which would be slow with more
+ */
 
 export class DocumentField {
   /**
-   * @param {{view: string, what: string, program: string, most: number}} of the view, whose name begins those of its elements; the name of
-   *   the text, and the program that reads it; the most letters of the field, which would be slow with more
+   * @param {DocumentKind} kind
    * @param {(text: string, how: {types?: boolean}) => void} onText gets a text, and whether it is typed
-   * @param {(why: Array<Node | string>) => void} onRefused gets the reason why there is none
+   * @param {(why: Inside) => void} onRefused gets the reason why there is none
    */
   constructor({ view, what, program, most }, onText, onRefused) {
-    Object.assign(this, { what, most, onText, onRefused, text: '' });
-    this.field = byId(`${view}-text`);
+    this.what = what;
+    this.most = most;
+    this.onText = onText;
+    this.onRefused = onRefused;
+    this.text = '';
+    this.field = textById(`${view}-text`);
     this.name = byId(`${view}-name`);
     this.tooLong = `The ${what} is too long for this page. The program ${program} has no such limit.`;
     this.field.addEventListener('input', () => this.onText(this.field.value, { types: true }));
     this.field.addEventListener('paste', (event) => this.paste(event));
-    byId(`${view}-file`).addEventListener('change', (event) => this.open(event.target));
+    const choice = inputById(`${view}-file`);
+    choice.addEventListener('change', () => this.open(choice));
     byId(`${view}-save`).addEventListener('click', () => download(`${what}.toml`, 'text/plain', this.text));
   }
 
   /** Whether the text is kept, and not put into the field. */
   get isLong() { return this.text.length > this.most; }
 
-  /** The bytes of the text; none if they are too many. @returns {Uint8Array | null} */
+  /**
+   * The bytes of the text; none if they are too many.
+   * @returns {Uint8Array | null}
+   */
   get bytes() {
     const bytes = new TextEncoder().encode(this.text);
     return bytes.length > MOST_DOCUMENT ? null : bytes;
@@ -32,7 +49,7 @@ export class DocumentField {
 
   /** @param {ClipboardEvent} event */
   paste(event) {
-    const text = event.clipboardData.getData('text');
+    const text = event.clipboardData?.getData('text') ?? '';
     if (text.length <= this.most) return;
     event.preventDefault();
     this.onText(text, {});
@@ -40,7 +57,7 @@ export class DocumentField {
 
   /** @param {HTMLInputElement} choice of a file */
   async open(choice) {
-    const [file] = choice.files;
+    const [file] = choice.files ?? [];
     if (!file) return;
     try {
       if (file.size > MOST_DOCUMENT) this.onRefused([this.tooLong]);
@@ -59,7 +76,8 @@ export class DocumentField {
   put(text, types) {
     this.text = text;
     if (!types) this.field.value = this.isLong ? '' : text;
-    this.name.textContent = this.isLong && !types ? `Shown: a ${this.what} of ${counted(text.length, 'character')}, which are too many for the field.` : '';
+    const shown = `Shown: a ${this.what} of ${counted(text.length, 'character')}, which are too many for the field.`;
+    this.name.textContent = this.isLong && !types ? shown : '';
   }
 
   /** @param {boolean} is wrong */

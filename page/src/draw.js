@@ -3,13 +3,20 @@
 const SVG = 'http://www.w3.org/2000/svg';
 
 /** The computed styles that a picture in a file of its own needs. */
-const STYLES = ['fill', 'fill-opacity', 'stroke', 'stroke-width', 'stroke-dasharray', 'stroke-linejoin', 'font-family', 'font-size', 'font-weight'];
+const STYLES = [
+  'fill', 'fill-opacity', 'stroke', 'stroke-width', 'stroke-dasharray', 'stroke-linejoin', 'font-family', 'font-size',
+  'font-weight',
+];
+
+/** @typedef {Record<string, string | number | boolean>} Attributes of an element, by their names */
+
+/** @typedef {Array<Node | string>} Inside what is inside an element, in order */
 
 /**
  * @template {Element} T
  * @param {T} made
- * @param {Record<string, string | number>} attributes
- * @param {Array<Node | string>} inside
+ * @param {Attributes} attributes
+ * @param {Inside} inside
  * @returns {T}
  */
 function filled(made, attributes, inside) {
@@ -19,40 +26,80 @@ function filled(made, attributes, inside) {
 }
 
 /**
- * @param {string} name
- * @param {Record<string, string | number>} [attributes]
- * @param {Array<Node | string>} [inside]
- * @returns {SVGElement}
+ * @template {keyof SVGElementTagNameMap} N
+ * @param {N} name
+ * @param {Attributes} [attributes]
+ * @param {Inside} [inside]
+ * @returns {SVGElementTagNameMap[N]}
  */
 export function svg(name, attributes = {}, inside = []) {
   return filled(document.createElementNS(SVG, name), attributes, inside);
 }
 
 /**
- * @param {string} name
- * @param {Record<string, string | number>} [attributes]
- * @param {Array<Node | string>} [inside]
- * @returns {HTMLElement}
+ * @template {keyof HTMLElementTagNameMap} N
+ * @param {N} name
+ * @param {Attributes} [attributes]
+ * @param {Inside} [inside]
+ * @returns {HTMLElementTagNameMap[N]}
  */
 export function html(name, attributes = {}, inside = []) {
   return filled(document.createElement(name), attributes, inside);
 }
 
 /**
- * The element of the page with this name.
+ * The element of the page with this name, which has this class.
+ * @template {HTMLElement} T
  * @param {string} id
- * @returns {HTMLElement}
+ * @param {new () => T} kind
+ * @returns {T}
  */
-export function byId(id) {
+function ofKind(id, kind) {
   const found = document.getElementById(id);
-  if (!found) throw new Error(`the page has no ${id}`);
+  if (!(found instanceof kind)) throw new Error(`the page has no ${id}`);
   return found;
 }
 
-/** Waits until what has changed is seen, and no longer than a tenth of a second: a page in the background is not. */
+/**
+ * The element of the page with this name, and those that are inputs, texts, choices and buttons.
+ * @param {string} id
+ */
+export const byId = (id) => ofKind(id, HTMLElement);
+/** @param {string} id */
+export const inputById = (id) => ofKind(id, HTMLInputElement);
+/** @param {string} id */
+export const textById = (id) => ofKind(id, HTMLTextAreaElement);
+/** @param {string} id */
+export const selectById = (id) => ofKind(id, HTMLSelectElement);
+/** @param {string} id */
+export const buttonById = (id) => ofKind(id, HTMLButtonElement);
+
+/**
+ * The element that matches a selector, and at or in which an event happened; none if there is none.
+ * @param {Event} event
+ * @param {string} selector
+ * @returns {HTMLElement | SVGElement | null}
+ */
+export function closestTo({ target }, selector) {
+  const found = target instanceof Element ? target.closest(selector) : null;
+  return found instanceof HTMLElement || found instanceof SVGElement ? found : null;
+}
+
+/**
+ * What went wrong, in the words of what was thrown.
+ * @param {unknown} thrown
+ */
+export function messageOf(thrown) {
+  return thrown instanceof Error ? thrown.message : String(thrown);
+}
+
+/**
+ * Waits until what has changed is seen, and no longer than a tenth of a second: a page in the background is not.
+ * @returns {Promise<void>}
+ */
 export function painted() {
   return new Promise((resolve) => {
-    requestAnimationFrame(() => setTimeout(resolve));
+    requestAnimationFrame(() => { setTimeout(resolve); });
     setTimeout(resolve, 100);
   });
 }
@@ -63,7 +110,7 @@ export function painted() {
  * @returns {string}
  */
 export function asFile(picture) {
-  const copy = picture.cloneNode(true);
+  const copy = /** @type {SVGSVGElement} */ (picture.cloneNode(true));
   const shown = picture.querySelectorAll('*');
   copy.querySelectorAll('*').forEach((element, index) => {
     const style = getComputedStyle(shown[index]);
@@ -85,7 +132,7 @@ export function asFile(picture) {
  * Hands a text to the browser as a file to be kept.
  * @param {string} name
  * @param {string} type
- * @param {string} text
+ * @param {BlobPart} text
  */
 export function download(name, type, text) {
   const address = URL.createObjectURL(new Blob([text], { type }));
@@ -123,6 +170,6 @@ function copySelected(text) {
   area.select();
   const copied = document.execCommand('copy');
   area.remove();
-  activeElement?.focus?.();
+  if (activeElement instanceof HTMLElement || activeElement instanceof SVGElement) activeElement.focus();
   return copied;
 }

@@ -1,7 +1,7 @@
 /** The view that shows the levels of a frame, from its text or from its parts. */
 import { numberIn } from './address.js';
 import { ANSWER } from './core.js';
-import { asFile, byId, copyText, download, html } from './draw.js';
+import { asFile, byId, copyText, download, html, inputById, selectById } from './draw.js';
 import { textFault } from './text_fault.js';
 import { PART_FAULTS, counted } from './words.js';
 import { WireView } from './wire_view.js';
@@ -12,7 +12,10 @@ const EXAMPLES = Object.freeze([
   'E 00000000 D 0', 'E 12345678 R 4',
 ]);
 
-/** The field with a fault of the parts. */
+/**
+ * The field with a fault of the parts.
+ * @type {Readonly<Record<number, string>>}
+ */
 const PART_OF = Object.freeze({
   [ANSWER.badIdentifier]: 'part-identifier', [ANSWER.badDlc]: 'part-dlc', [ANSWER.badCount]: 'part-data',
 });
@@ -21,9 +24,9 @@ export class EncodeView {
   /** @param {import('./core.js').Core} core */
   constructor(core) {
     this.core = core;
-    this.text = byId('frame-text');
+    this.text = inputById('frame-text');
     this.parts = byId('parts');
-    this.box = byId('examples');
+    this.box = selectById('examples');
     this.levels = '';
     this.wires = new WireView(byId('encode-wire'), byId('encode-level'), byId('encode-fields'));
     this.fillChoices();
@@ -64,8 +67,8 @@ export class EncodeView {
 
   /** Shows the frame of the parts that are picked, or why there is none. */
   showParts() {
-    const digits = byId('part-identifier').value.trim();
-    const data = byId('part-data').value.replaceAll(/\s/g, '');
+    const digits = inputById('part-identifier').value.trim();
+    const data = inputById('part-data').value.replaceAll(/\s/g, '');
     if (!/^[0-9a-fA-F]{1,8}$/.test(digits)) {
       this.refuse(byId('part-identifier'), 'The identifier must have one to eight hexadecimal digits.');
       return;
@@ -76,9 +79,9 @@ export class EncodeView {
     }
     const { answer, text } = this.core.frameText({
       identifier: Number.parseInt(digits, 16),
-      extended: byId('part-extended').checked,
-      remote: byId('part-remote').checked,
-      dlc: Number(byId('part-dlc').value),
+      extended: inputById('part-extended').checked,
+      remote: inputById('part-remote').checked,
+      dlc: Number(selectById('part-dlc').value),
       bytes: Uint8Array.from(data.match(/../g) ?? [], (pair) => Number.parseInt(pair, 16)),
     });
     if (answer !== ANSWER.done) {
@@ -92,11 +95,11 @@ export class EncodeView {
   /** Fills in the parts of a frame's text. */
   fillParts() {
     const [kind, identifier, direction, dlc, data = ''] = this.text.value.split(' ');
-    byId(kind === 'E' ? 'part-extended' : 'part-standard').checked = true;
-    byId(direction === 'R' ? 'part-remote' : 'part-dataframe').checked = true;
-    byId('part-identifier').value = identifier;
-    byId('part-dlc').value = dlc;
-    byId('part-data').value = data;
+    inputById(kind === 'E' ? 'part-extended' : 'part-standard').checked = true;
+    inputById(direction === 'R' ? 'part-remote' : 'part-dataframe').checked = true;
+    inputById('part-identifier').value = identifier;
+    selectById('part-dlc').value = dlc;
+    inputById('part-data').value = data;
   }
 
   /** @param {Uint8Array} levels */
@@ -105,7 +108,8 @@ export class EncodeView {
     this.levels = levels.join('');
     this.box.value = EXAMPLES.includes(this.text.value) ? this.text.value : '';
     this.setFault([]);
-    byId('encode-reported').textContent = `${counted(levels.length, 'level')}, ${counted(stuffed.reduce((sum, flag) => sum + flag, 0), 'stuff bit')} included.`;
+    const stuffBits = stuffed.reduce((sum, flag) => sum + flag, 0);
+    byId('encode-reported').textContent = `${counted(levels.length, 'level')}, ${counted(stuffBits, 'stuff bit')} included.`;
     this.wires.show({ id: 'sent', name: `Levels of ${this.text.value}`, levels, fields, stuffed, first: 0, fault: null });
     byId('encode-shown').hidden = false;
     this.wires.draw();
@@ -138,7 +142,10 @@ export class EncodeView {
   /** What the view shows, for an address. */
   async what() { return { frame: this.text.value, level: this.wires.looked }; }
 
-  /** Shows what an address says. @param {Record<string, string>} what */
+  /**
+   * Shows what an address says.
+   * @param {import('./address.js').Shown} what
+   */
   async open({ frame, level }) {
     if (frame === undefined) return;
     this.text.value = frame;

@@ -16,5 +16,9 @@ const MARGIN = /^(shorter periods|more hits) (\d+)(?: per cent)? ok(?: \d+(?: pe
  */
 export function marginsOf(answer) {
   const found = answer.split('\n').slice(-3).map((line) => MARGIN.exec(line));
-  return found.filter((match) => match !== null).map(([, words, most, late = '', name = '']) => ({ kind: words.split(' ')[0], most: Number(most), late, name }));
+  return found.flatMap((match) => {
+    if (match === null) return [];
+    const [, words, most, late = '', name = ''] = match;
+    return [{ kind: words.split(' ')[0], most: Number(most), late, name }];
+  });
 }

@@ -8,11 +8,20 @@ import { counted } from './words.js';
 const TOLERATED = 48;
 
 /**
- * The words of a margin by its kind: how much more is tolerated; that amount in short; and which part of what is tolerated the network has now.
- * @type {Readonly<Record<string, {words: (most: number) => string, more: (most: number) => string, part: (most: number, burst: number) => number}>>}
+ * A kind of margin: how much more is tolerated; that amount in short; and which part of what is tolerated the network has
+ * now, with this many hits.
+ * @typedef {object} Kind
+ * @property {(most: number) => string} words
+ * @property {(most: number) => string} more
+ * @property {(most: number, burst: number) => number} part
  */
+
+/** @type {Readonly<Record<string, Kind>>} by the first of its words in the output */
 const KINDS = Object.freeze({
-  shorter: { words: (most) => (most === 0 ? 'Periods may not be 1 % shorter.' : `All periods may be ${most} % shorter.`), more: (most) => `${most} %`, part: (most) => (100 - most) / 100 },
+  shorter: {
+    words: (most) => (most === 0 ? 'Periods may not be 1 % shorter.' : `All periods may be ${most} % shorter.`),
+    more: (most) => `${most} %`, part: (most) => (100 - most) / 100,
+  },
   more: {
     words: (most) => (most === 0 ? 'No more hits may come at once.' : `${counted(most, 'hit')} more may come at once.`),
     more: (most) => counted(most, 'hit'), part: (most, burst) => (burst + most === 0 ? 1 : burst / (burst + most)),
@@ -34,6 +43,7 @@ export function leftItems(margins, burst) {
 
 /** @param {number} part */
 function barOf(part) {
+  /** @param {string} name @param {number} hundredths */
   const bar = (name, hundredths) => svg('rect', { class: name, x: 0, y: 4, width: `${Math.round(hundredths * 10) / 10}%`, height: 12 });
   const line = svg('rect', { class: 'deadline', x: `${TOLERATED}%`, y: 0, width: 3, height: 20 });
   return svg('svg', { class: 'bar', 'aria-hidden': 'true' }, [bar('track', TOLERATED), bar('bound', part * TOLERATED), line]);

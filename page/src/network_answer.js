@@ -30,14 +30,21 @@ export function answerOf(bytes) {
   const text = new TextDecoder().decode(bytes);
   const lines = text.split('\n');
   const end = lines.findIndex((line) => LAST.test(line));
-  return { text, verdicts: lines.slice(1, end).map(verdictOf), load: LAST.exec(lines[end])[1], borne: lines[end + 1] };
+  return { text, verdicts: lines.slice(1, end).map(verdictOf), load: partsOf(LAST, lines[end])[1], borne: lines[end + 1] };
 }
 
 /** @param {string} line @returns {Verdict} */
 function verdictOf(line) {
-  const [, frame, longest, blocking, bound, deadline, slack, name = ''] = MESSAGE.exec(line);
+  const [, frame, longest, blocking, bound, deadline, slack, name = ''] = partsOf(MESSAGE, line);
   return {
-    frame, longest: Number(longest), blocking: Number(blocking), bound: bound === 'none' ? null : Number(bound), deadline: Number(deadline),
-    slack: slack === undefined ? null : Number(slack), name,
+    frame, longest: Number(longest), blocking: Number(blocking), bound: bound === 'none' ? null : Number(bound),
+    deadline: Number(deadline), slack: slack === undefined ? null : Number(slack), name,
   };
+}
+
+/** @param {RegExp} pattern @param {string} line */
+function partsOf(pattern, line) {
+  const found = pattern.exec(line);
+  if (!found) throw new Error(`this line of the output is not understood: ${line}`);
+  return found;
 }

@@ -1,5 +1,5 @@
 /** The bound of each message and its deadline, in numbers and as bars. */
-import { byId, html, svg } from './draw.js';
+import { byId, closestTo, html, svg } from './draw.js';
 import { Pages } from './pages.js';
 
 /** @typedef {import('./network_answer.js').Verdict} Verdict */
@@ -19,18 +19,26 @@ const COLUMNS = ['Longest', 'Blocking', 'Bound', 'Deadline', 'Outcome'];
 
 export class BoundsView {
   /**
-   * @param {(verdict: Verdict, refuse: (why: string) => void) => void} onWorst gets a message whose worst case is asked for; `refuse` shows why there is none
-   * @param {(verdict: Verdict, show: (view: Node) => void) => void} onMakings gets a message whose parts of the bound are asked for; `show` shows them
+   * @param {(verdict: Verdict, refuse: (why: string) => void) => void} onWorst gets a message whose worst case is asked for;
+   *   `refuse` shows why there is none
+   * @param {(verdict: Verdict, show: (view: Node) => void) => void} onMakings gets a message whose parts of the bound are
+   *   asked for; `show` shows them
    */
   constructor(onWorst, onMakings) {
     this.rows = byId('network-bounds');
     /** @type {Verdict[]} */
     this.verdicts = [];
-    this.pages = new Pages('network-bounds', SHOWN, (first, last) => this.rows.replaceChildren(...this.verdicts.slice(first, last).map((verdict, index) => rowOf(verdict, first + index))));
-    this.rows.addEventListener('click', ({ target }) => {
-      const { worst, makings } = target.dataset;
-      if (worst !== undefined) onWorst(this.verdicts[Number(worst)], (why) => { target.parentElement.querySelector('[role=status]').textContent = why; });
-      if (makings !== undefined) toggle(target, (show) => onMakings(this.verdicts[Number(makings)], show));
+    this.pages = new Pages('network-bounds', SHOWN, (first, last) => {
+      this.rows.replaceChildren(...this.verdicts.slice(first, last).map((verdict, index) => rowOf(verdict, first + index)));
+    });
+    this.rows.addEventListener('click', (event) => {
+      const button = closestTo(event, 'button');
+      const row = closestTo(event, 'tr');
+      if (!button || !row) return;
+      const { worst, makings } = button.dataset;
+      const status = row.querySelector('[role=status]');
+      if (worst !== undefined) onWorst(this.verdicts[Number(worst)], (why) => { if (status) status.textContent = why; });
+      if (makings !== undefined) toggle(button, row, (show) => onMakings(this.verdicts[Number(makings)], show));
     });
   }
 
@@ -48,13 +56,16 @@ function rowOf(verdict, place) {
   const isLate = slack === null;
   const outcome = isLate ? html('strong', { class: 'fault-name' }, ['▲ late']) : `ok, slack ${shown(slack)}`;
   const cells = [shown(longest), shown(blocking), bound === null ? 'none' : shown(bound), shown(deadline), outcome];
+  const parts = {
+    type: 'button', class: 'link', 'data-makings': place, 'aria-expanded': false, 'aria-label': `Parts of the bound of ${frame}`,
+  };
   return html('tr', isLate ? { class: 'late' } : {}, [
     html('th', { scope: 'row', class: 'mono' }, name === '' ? [frame] : [frame, html('div', { class: 'called' }, [name])]),
     ...cells.map((cell, column) => html('td', { 'data-name': COLUMNS[column], class: column < 4 ? 'number' : 'outcome' }, [cell])),
     html('td', { class: 'bar-room' }, [barOf(verdict)]),
     html('td', { class: 'worst' }, [
       html('button', { type: 'button', class: 'link', 'data-worst': place, 'aria-label': `Worst case of ${frame}` }, ['Worst case']),
-      ...(bound === null ? [] : [html('button', { type: 'button', class: 'link', 'data-makings': place, 'aria-expanded': 'false', 'aria-label': `Parts of the bound of ${frame}` }, ['Parts'])]),
+      ...(bound === null ? [] : [html('button', parts, ['Parts'])]),
       html('p', { class: 'hint', role: 'status' }),
     ]),
   ]);
@@ -62,15 +73,15 @@ function rowOf(verdict, place) {
 
 /**
  * Shows a row below that of a button, or takes it away.
- * @param {HTMLElement} button
+ * @param {Element} button
+ * @param {Element} row
  * @param {(show: (view: Node) => void) => void} fill
  */
-function toggle(button, fill) {
+function toggle(button, row, fill) {
   const isOpen = button.getAttribute('aria-expanded') === 'true';
-  const row = button.closest('tr');
   button.setAttribute('aria-expanded', String(!isOpen));
   if (isOpen) {
-    row.nextElementSibling.remove();
+    row.nextElementSibling?.remove();
     return;
   }
   const cell = html('td', { colspan: COLUMNS.length + 3 });
@@ -92,10 +103,17 @@ function barOf({ bound, deadline, slack }) {
   const inTime = svg('rect', { class: 'bound', x: 0, y: 4, width: percent(Math.min(end, DEADLINE)), height: 12 });
   const beyond = slack === null ? [
     svg('rect', { class: 'beyond', x: percent(DEADLINE), y: 4, width: percent(Math.max(end - DEADLINE, LEAST)), height: 12 }),
-    ...(length > CUT ? [svg('svg', { x: percent(CUT), y: 0, width: 12, height: 20, overflow: 'visible' }, [svg('path', { class: 'cut', d: 'M0 1L9 10L0 19Z' })])] : []),
+    ...(length > CUT ? [arrow()] : []),
   ] : [];
   const marked = svg('rect', { class: 'deadline', x: percent(DEADLINE), y: 0, width: 3, height: 20 });
-  return svg('svg', { class: 'bar', 'aria-hidden': 'true' }, [svg('rect', { class: 'track', x: 0, y: 4, width: percent(DEADLINE), height: 12 }), inTime, ...beyond, marked]);
+  const track = svg('rect', { class: 'track', x: 0, y: 4, width: percent(DEADLINE), height: 12 });
+  return svg('svg', { class: 'bar', 'aria-hidden': 'true' }, [track, inTime, ...beyond, marked]);
+}
+
+/** The end of a bar that is cut. */
+function arrow() {
+  const head = svg('path', { class: 'cut', d: 'M0 1L9 10L0 19Z' });
+  return svg('svg', { x: percent(CUT), y: 0, width: 12, height: 20, overflow: 'visible' }, [head]);
 }
 
 /** @param {number} hundredths */

@@ -5,11 +5,13 @@ import { ERROR_NAMES, MESSAGE_NAMES, TOP_NAMES } from './network_text.js';
 import { textFault } from './text_fault.js';
 import { firstUnknown, placeWords, scanned, stopWords } from './toml_places.js';
 
+/** @typedef {import('./core.js').Core} Core */
+
 /**
- * @param {import('./core.js').Core} core
+ * @param {Core} core
  * @param {string} text
  * @param {import('./core.js').WrongField} wrong what the proved code reports
- * @returns {{code: string, place: string, inside: Array<Node | string>, why: string}}
+ * @returns {import('./document_view.js').Fault}
  */
 export function networkFault(core, text, wrong) {
   const code = wrongName(wrong);
@@ -17,7 +19,14 @@ export function networkFault(core, text, wrong) {
   return { code, place: placeWords(text, offset), inside, why: `${wrong.words}.` };
 }
 
-/** The offset of what is wrong, and the words about it. */
+/**
+ * The offset of what is wrong, and the words about it.
+ * @param {Core} core
+ * @param {import('./core.js').WrongField} wrong
+ * @param {string} code
+ * @param {import('./toml_places.js').Scanned} found
+ * @returns {import('./toml_places.js').Detail}
+ */
 function detail(core, { field, number }, code, found) {
   if (field === WRONG.toml) return stopWords(found);
   if (field === WRONG.key) return firstUnknown(found, '', TOP_NAMES);
@@ -26,7 +35,11 @@ function detail(core, { field, number }, code, found) {
   return { offset: found.places.get(code), inside: field === WRONG.frame ? wrongHead(core, found.strings.get(code)) : [] };
 }
 
-/** What is wrong in the text of a frame up to its DLC, if it is that which is. @param {string | undefined} head */
+/**
+ * What is wrong in the text of a frame up to its DLC, if it is that which is.
+ * @param {Core} core
+ * @param {string | undefined} head
+ */
 function wrongHead(core, head) {
   if (head === undefined) return [];
   const bytes = new TextEncoder().encode(head);

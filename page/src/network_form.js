@@ -1,12 +1,19 @@
 /** The form of a network, beside its text: the bit rate and the errors, and a table of messages. */
-import { byId, html } from './draw.js';
+import { byId, closestTo, html, inputById } from './draw.js';
 import { MESSAGE_NAMES, newMessage } from './network_text.js';
 import { Pages } from './pages.js';
 
 /** @typedef {import('./network_text.js').NetworkForm} Form */
+/** @typedef {import('./network_text.js').MessageForm} MessageForm */
 
 /** The fields above the table. */
-const TOP = ['rate', 'burst', 'spacing'];
+const TOP = /** @type {const} */ (['rate', 'burst', 'spacing']);
+
+/**
+ * How many messages on keys go.
+ * @type {Record<string, number | undefined>}
+ */
+const STEPS = { ArrowDown: 1, ArrowUp: -1, Enter: 1 };
 
 /** The number of messages that are shown at a time. */
 const SHOWN = 32;
@@ -31,25 +38,32 @@ export class NetworkForm {
     this.wrong = '';
     this.pages = new Pages('network-messages', SHOWN, (first, last) => this.show(first, last));
     const form = byId('network-form');
-    form.addEventListener('input', (event) => this.changed(event.target));
+    form.addEventListener('input', ({ target }) => { if (target instanceof HTMLInputElement) this.changed(target); });
     form.addEventListener('submit', (event) => event.preventDefault());
     this.rows.addEventListener('keydown', (event) => this.key(event));
-    this.rows.addEventListener('click', ({ target }) => { if (target.matches('.remove')) this.remove(Number(target.dataset.place)); });
+    this.rows.addEventListener('click', (event) => {
+      const button = closestTo(event, '.remove');
+      if (button) this.remove(Number(button.dataset.place));
+    });
     byId('network-add').addEventListener('click', () => this.add());
   }
 
   /** @param {HTMLInputElement} field */
   changed({ dataset: { place, name }, value }) {
-    if (place === undefined) this.form[name] = value;
-    else this.form.messages[place][name] = value;
+    const top = TOP.find((it) => it === name);
+    const own = MESSAGE_NAMES.find((it) => it === name);
+    if (place === undefined && top) this.form[top] = value;
+    else if (place !== undefined && own) this.form.messages[Number(place)][own] = value;
     this.onChange();
   }
 
-  /** Goes to the same field of the message below or above. @param {KeyboardEvent} event */
+  /**
+   * Goes to the same field of the message below or above.
+   * @param {KeyboardEvent} event
+   */
   key(event) {
-    const by = { ArrowDown: 1, ArrowUp: -1, Enter: 1 }[event.key];
-    const { place, name } = event.target.dataset;
-    const to = Number(place) + by;
+    const { place, name } = closestTo(event, 'input')?.dataset ?? {};
+    const to = Number(place) + (STEPS[event.key] ?? NaN);
     if (!name || !(to >= 0 && to < this.form.messages.length)) return;
     event.preventDefault();
     if (!document.getElementById(`network-${name}-${to}`)) this.pages.goTo(to);
@@ -74,41 +88,38 @@ export class NetworkForm {
   /** @param {Form} form */
   fill(form) {
     this.form = form;
-    for (const name of TOP) byId(`network-${name}`).value = form[name];
+    for (const name of TOP) inputById(`network-${name}`).value = form[name];
     this.pages.goTo(this.pages.first, form.messages.length);
   }
 
-  /** Fills in the rows of messages. */
+  /**
+   * Fills in the rows of messages.
+   * @param {number} first
+   * @param {number} last
+   */
   show(first, last) {
-    this.rows.replaceChildren(...this.form.messages.slice(first, last).map((message, index) => this.rowOf(message, first + index)));
+    this.rows.replaceChildren(...this.form.messages.slice(first, last).map((message, index) => rowOf(message, first + index)));
     this.markShown();
   }
 
-  rowOf(message, place) {
-    const cell = (name) => {
-      const { label, empty, size } = FIELDS[name];
-      const field = html('input', {
-        id: `network-${name}-${place}`, 'data-place': place, 'data-name': name, class: 'mono', type: 'text', size, value: message[name], placeholder: empty, autocomplete: 'off', spellcheck: 'false',
-        'aria-label': `${label} of message ${place}`, 'aria-describedby': 'network-fault', ...(name === 'frame' || name === 'name' ? {} : { inputmode: 'numeric' }),
-      });
-      return html('td', { class: name, 'data-name': label }, [field]);
-    };
-    const remove = html('button', { type: 'button', id: `network-remove-${place}`, class: 'remove', 'data-place': place, 'aria-label': `Remove message ${place}` }, ['Remove']);
-    return html('tr', {}, [html('th', { scope: 'row' }, [String(place)]), ...MESSAGE_NAMES.map(cell), html('td', { class: 'last' }, [remove])]);
-  }
-
-  /** Whether the form shows the text. */
+  /**
+   * Whether the form shows the text.
+   * @param {boolean} shows
+   */
   enable(shows) {
     byId('network-form').querySelectorAll('fieldset').forEach((set) => { set.disabled = !shows; });
     byId('network-formless').hidden = shows;
   }
 
-  /** Marks the field that is wrong, by the name that canplan gives it, if the form shows the text. */
+  /**
+   * Marks the field that is wrong, by the name that canplan gives it, if the form shows the text.
+   * @param {string} code
+   */
   mark(code) {
     this.wrong = byId('network-formless').hidden ? code : '';
-    const [, place] = /^message\[(\d+)\]/.exec(this.wrong) ?? [];
+    const place = Number(/^message\[(\d+)\]/.exec(this.wrong)?.[1] ?? NaN);
     const { first, size, count } = this.pages;
-    if (place !== undefined && (place < first || place >= first + size) && place < count) this.pages.goTo(Number(place));
+    if ((place < first || place >= first + size) && place < count) this.pages.goTo(place);
     else this.markShown();
   }
 
@@ -120,4 +131,34 @@ export class NetworkForm {
     const [, place, name = 'frame', rate, error] = found;
     document.getElementById(place === undefined ? `network-${rate ?? error}` : `network-${name}-${place}`)?.setAttribute('aria-invalid', 'true');
   }
+}
+
+/**
+ * The row of a message.
+ * @param {MessageForm} message
+ * @param {number} place
+ */
+function rowOf(message, place) {
+  const remove = html('button', {
+    type: 'button', id: `network-remove-${place}`, class: 'remove', 'data-place': place, 'aria-label': `Remove message ${place}`,
+  }, ['Remove']);
+  const cells = MESSAGE_NAMES.map((name) => cellOf(name, message[name], place));
+  return html('tr', {}, [html('th', { scope: 'row' }, [String(place)]), ...cells, html('td', { class: 'last' }, [remove])]);
+}
+
+/**
+ * A field of a message.
+ * @param {keyof MessageForm} name
+ * @param {string} value
+ * @param {number} place of the message
+ */
+function cellOf(name, value, place) {
+  const { label, empty, size } = FIELDS[name];
+  const field = html('input', {
+    id: `network-${name}-${place}`, 'data-place': place, 'data-name': name, class: 'mono', type: 'text', size, value,
+    placeholder: empty, autocomplete: 'off', spellcheck: 'false',
+    'aria-label': `${label} of message ${place}`, 'aria-describedby': 'network-fault',
+    ...(name === 'frame' || name === 'name' ? {} : { inputmode: 'numeric' }),
+  });
+  return html('td', { class: name, 'data-name': label }, [field]);
 }

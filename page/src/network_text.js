@@ -2,7 +2,7 @@
 import { scanned } from './toml_places.js';
 
 /**
- * @typedef {Record<'frame' | 'dlc' | 'period' | 'jitter' | 'deadline' | 'name', string>} MessageForm
+ * @typedef {Record<typeof MESSAGE_NAMES[number], string>} MessageForm
  */
 
 /**
@@ -16,9 +16,10 @@ import { scanned } from './toml_places.js';
 
 /** The names at the top, those of errors, and those of a message. */
 export const TOP_NAMES = ['version', 'rate', 'errors', 'message'];
-export const ERROR_NAMES = ['burst', 'spacing'];
-export const MESSAGE_NAMES = ['frame', 'dlc', 'period', 'jitter', 'deadline', 'name'];
-const NUMBER_NAMES = ['dlc', 'period', 'jitter', 'deadline'];
+export const ERROR_NAMES = /** @type {const} */ (['burst', 'spacing']);
+export const MESSAGE_NAMES = /** @type {const} */ (['frame', 'dlc', 'period', 'jitter', 'deadline', 'name']);
+const NUMBER_NAMES = /** @type {const} */ (['dlc', 'period', 'jitter', 'deadline']);
+const TEXT_NAMES = /** @type {const} */ (['frame', 'name']);
 
 /** The paths of numbers, of texts, and of what holds them. */
 const NUMBER = /^(?:version|rate|errors\.(?:burst|spacing)|message\[\d+\]\.(?:dlc|period|jitter|deadline))$/;
@@ -35,14 +36,17 @@ export const newMessage = () => ({ frame: '', dlc: '', period: '', jitter: '', d
  */
 export function formOf(text) {
   const { places, strings, literals, stopped } = scanned(text);
+  /** @param {string} path */
   const isShown = (path) => (literals.has(path) ? NUMBER.test(path) : strings.has(path) ? TEXT.test(path) : HOLDER.test(path));
   if (stopped || ![...places.keys()].every(isShown)) return null;
+  /** @param {string} path */
   const number = (path) => literals.get(path) ?? '';
   const messages = [];
   for (let place = 0; places.has(`message[${place}]`); place += 1) {
-    const path = `message[${place}]`;
-    const numbers = Object.fromEntries(NUMBER_NAMES.map((name) => [name, number(`${path}.${name}`)]));
-    messages.push({ ...numbers, frame: strings.get(`${path}.frame`) ?? '', name: strings.get(`${path}.name`) ?? '' });
+    const message = newMessage();
+    for (const name of NUMBER_NAMES) message[name] = number(`message[${place}].${name}`);
+    for (const name of TEXT_NAMES) message[name] = strings.get(`message[${place}].${name}`) ?? '';
+    messages.push(message);
   }
   const [burst, spacing] = ERROR_NAMES.map((name) => number(`errors.${name}`));
   // a table of errors with nothing in it says that there are none, and is kept
@@ -56,8 +60,8 @@ export function formOf(text) {
  * @returns {string}
  */
 export function textOf(form) {
-  const top = [`version = ${form.version || 1}`, ...lineOf(form, 'rate')];
-  const errors = ERROR_NAMES.flatMap((name) => lineOf(form, name));
+  const top = [`version = ${form.version || 1}`, ...lineOf('rate', form.rate)];
+  const errors = ERROR_NAMES.flatMap((name) => lineOf(name, form[name]));
   const parts = [top, ...(errors.length > 0 ? [['[errors]', ...errors]] : []), ...form.messages.map(messageLines)];
   return parts.map((lines) => `${lines.join('\n')}\n`).join('\n');
 }
@@ -66,11 +70,14 @@ export function textOf(form) {
 function messageLines(message) {
   const frame = message.frame.trim() === '' ? [] : [`frame = ${JSON.stringify(message.frame.trim())}`];
   const name = message.name === '' ? [] : [`name = ${JSON.stringify(message.name)}`];
-  return ['[[message]]', ...name, ...frame, ...NUMBER_NAMES.flatMap((it) => lineOf(message, it))];
+  return ['[[message]]', ...name, ...frame, ...NUMBER_NAMES.flatMap((it) => lineOf(it, message[it]))];
 }
 
-/** The line of a number, if there is one. @param {Record<string, string>} from @param {string} name */
-function lineOf(from, name) {
-  const value = from[name].trim();
-  return value === '' ? [] : [`${name} = ${value}`];
+/**
+ * The line of a number, if there is one.
+ * @param {string} name
+ * @param {string} value
+ */
+function lineOf(name, value) {
+  return value.trim() === '' ? [] : [`${name} = ${value.trim()}`];
 }

@@ -28,7 +28,10 @@ export function wrongName({ field, number }) {
 export function borneWords(line) {
   if (line === '') return 'No hits: the document has no errors.';
   const [, within] = / within (\d+)$/.exec(line) ?? [];
-  if (within !== undefined) return `Hits are tolerated for ${Number(within).toLocaleString('en')} bit times: in that time there are at most 15, so no port becomes error passive.`;
+  if (within !== undefined) {
+    const most = 'in that time there are at most 15, so no port becomes error passive.';
+    return `Hits are tolerated for ${Number(within).toLocaleString('en')} bit times: ${most}`;
+  }
   return line.endsWith('for ever')
     ? 'Hits are always tolerated: there are at most 15 in all, so no port becomes error passive.'
     : 'Hits may not be tolerated: more than 15 may come at once, so a port may become error passive.';
@@ -36,9 +39,11 @@ export function borneWords(line) {
 
 /**
  * Why the worst case of a message is not shown.
- * @param {number} answer
+ * @param {number | undefined} answer none if there was no memory for one
  */
 export function worstCaseRefusal(answer) {
-  if (answer === ANSWER.tooLong) return 'No scenario is long enough: the bus is busy with this message and those of higher priority for more than 999,999 bit times, or forever.';
-  return answer === ANSWER.noMessage ? 'The network has no such message any more.' : 'The worst case needs more memory than this page has. The program canplan has no such limit.';
+  if (answer === ANSWER.noMessage) return 'The network has no such message any more.';
+  if (answer !== ANSWER.tooLong) return 'The worst case needs more memory than this page has. The program canplan has no such limit.';
+  const busy = 'the bus is busy with this message and those of higher priority';
+  return `No scenario is long enough: ${busy} for more than 999,999 bit times, or forever.`;
 }

@@ -2,7 +2,7 @@
  * The wire as a picture: levels as a waveform in rows, the field of each above it, stuff bits hatched, place numbers
  * under it. Each level can be pointed at and focused. It only draws what it is given.
  */
-import { svg } from './draw.js';
+import { closestTo, svg } from './draw.js';
 import { FIELD, FIELDS, STUFF_RULE, levelName } from './words.js';
 
 /** Sizes in pixels. */
@@ -26,6 +26,8 @@ const NUMBERED = 5;
  * @property {number} first the place of the first level
  * @property {number | null} fault the index of the level at which a fault shows; the one after the last, if they end too soon
  */
+
+/** @typedef {Wire & {id: string, name: string}} NamedWire with what begins the names of the elements, and what it is called */
 
 /**
  * What a level is, in a sentence.
@@ -156,26 +158,31 @@ function fieldLabel(span, start) {
  * @returns {string} the line of a row's levels
  */
 function wavePath(wire, start, end) {
+  /** @param {number} index */
   const height = (index) => (wire.levels[index] === 0 ? LOW : HIGH);
   let path = `M${SIDE} ${height(start > 0 ? start - 1 : start)}`;
   for (let index = start; index < Math.min(end, wire.levels.length); index += 1) path += `V${height(index)}H${SIDE + (index - start + 1) * CELL}`;
   return path;
 }
 
-/** @param {Wire} wire @param {number} index @param {number} start */
+/** @param {NamedWire} wire @param {number} index @param {number} start */
 function levelCell(wire, index, start) {
   const x = SIDE + (index - start) * CELL;
   const known = index < wire.fields.length;
   const place = wire.first + index;
+  const cell = `cell ${known ? `field field-${wire.fields[index]} pale` : 'unknown'}`;
+  /** @type {SVGElement[]} */
   const parts = [
-    svg('rect', { class: `cell ${known ? `field field-${wire.fields[index]} pale` : 'unknown'}`, x, y: LABEL, width: CELL, height: DIGIT - LABEL + 5 }),
+    svg('rect', { class: cell, x, y: LABEL, width: CELL, height: DIGIT - LABEL + 5 }),
     svg('text', { class: 'digit', x: x + CELL / 2, y: DIGIT, 'text-anchor': 'middle' }, [String(wire.levels[index] ?? '…')]),
   ];
   if (known && wire.stuffed[index]) {
     parts.splice(1, 0, svg('path', { class: 'hatch', d: hatching({ x, y: LABEL + 1, width: CELL, height: LOW + 4 - LABEL }, 8) }));
   }
   if (index === wire.fault) parts.push(svg('rect', { class: 'fault-box', x: x + 1.5, y: LABEL + 1.5, width: CELL - 3, height: DIGIT - LABEL + 2 }));
-  if (index === start || place % NUMBERED === 0) parts.push(svg('text', { class: 'place', x: x + CELL / 2, y: PLACE, 'text-anchor': 'middle' }, [String(place)]));
+  if (index === start || place % NUMBERED === 0) {
+    parts.push(svg('text', { class: 'place', x: x + CELL / 2, y: PLACE, 'text-anchor': 'middle' }, [String(place)]));
+  }
   return svg('g', {
     class: 'level', role: 'option', id: `${wire.id}-${index}`, 'data-index': index, tabindex: '-1',
     'aria-selected': 'false', 'aria-label': levelWords(wire, index), ...(known && wire.stuffed[index] ? { 'data-stuffed': '' } : {}),
@@ -198,11 +205,12 @@ export function hatching({ x, y, width, height }, step) {
   return path;
 }
 
-/** @param {Wire} wire @param {number} start @param {number} end @param {number} row */
+/** @param {NamedWire} wire @param {number} start @param {number} end @param {number} row */
 function rowOf(wire, start, end, row) {
   const cells = [];
   for (let index = start; index < end; index += 1) cells.push(levelCell(wire, index, start));
-  const ends = bytesIn(wire).filter((index) => index >= start && index < end).map((index) => `M${SIDE + (index - start) * CELL} ${LABEL}V${DIGIT + 5}`).join('');
+  const starts = bytesIn(wire).filter((index) => index >= start && index < end);
+  const ends = starts.map((index) => `M${SIDE + (index - start) * CELL} ${LABEL}V${DIGIT + 5}`).join('');
   return svg('g', { class: 'row', role: 'presentation', transform: `translate(0 ${row * ROW})` }, [
     ...spansOf(wire.fields, start, end).map((span) => fieldLabel(span, start)),
     ...cells,
@@ -213,7 +221,7 @@ function rowOf(wire, start, end, row) {
 
 /**
  * The picture of a wire, as wide as its space.
- * @param {Wire & {id: string, name: string}} wire
+ * @param {NamedWire} wire
  * @param {number} room in pixels
  * @returns {SVGSVGElement}
  */
@@ -225,7 +233,8 @@ export function pictureOf(wire, room) {
   const width = 2 * SIDE + columns * CELL;
   const height = rows.length * ROW - (ROW - PLACE - 4);
   const picture = svg('svg', {
-    class: 'wire', width, height, viewBox: `0 0 ${width} ${height}`, role: 'listbox', 'aria-label': wire.name, 'aria-orientation': 'horizontal',
+    class: 'wire', width, height, viewBox: `0 0 ${width} ${height}`,
+    role: 'listbox', 'aria-label': wire.name, 'aria-orientation': 'horizontal',
   }, rows);
   picture.querySelector('.level')?.setAttribute('tabindex', '0');
   return picture;
@@ -234,7 +243,7 @@ export function pictureOf(wire, room) {
 /**
  * Selects a level of the pictures in a room.
  * @param {HTMLElement} room
- * @param {SVGElement} level
+ * @param {HTMLElement | SVGElement} level
  * @param {(index: number) => void} onLevel gets it
  */
 export function lookAt(room, level, onLevel) {
@@ -256,16 +265,21 @@ export function lookAt(room, level, onLevel) {
 export function letLook(room, onLevel) {
   for (const type of ['pointerover', 'focusin']) {
     room.addEventListener(type, (event) => {
-      const level = event.target.closest('.level');
+      const level = closestTo(event, '.level');
       if (level) lookAt(room, level, onLevel);
     });
   }
   room.addEventListener('keydown', (event) => {
+    const level = closestTo(event, '.level');
+    if (!level) return;
     const levels = [...room.querySelectorAll('.level')];
-    const at = levels.indexOf(event.target.closest('.level'));
-    const to = { ArrowLeft: at - 1, ArrowRight: at + 1, Home: 0, End: levels.length - 1 }[event.key];
-    if (at < 0 || to === undefined || event.altKey || event.ctrlKey || event.metaKey) return;
+    const at = levels.indexOf(level);
+    /** @type {Record<string, number | undefined>} */
+    const places = { ArrowLeft: at - 1, ArrowRight: at + 1, Home: 0, End: levels.length - 1 };
+    const to = places[event.key];
+    if (to === undefined || event.altKey || event.ctrlKey || event.metaKey) return;
     event.preventDefault();
-    levels[Math.min(Math.max(to, 0), levels.length - 1)].focus();
+    const next = levels[Math.min(Math.max(to, 0), levels.length - 1)];
+    if (next instanceof SVGElement) next.focus();
   });
 }

@@ -4,9 +4,13 @@ const LINE_END = 0x0a;
 const BLANK = 0x20;
 
 /**
- * The offsets of the lines of a report, which of them are about a port, and the recorded levels.
- * @param {Uint8Array} bytes
+ * @typedef {object} ReportIndex
+ * @property {Uint32Array} lines the offset of each line, and the length of the report
+ * @property {Uint32Array} ports the lines that are about a port
+ * @property {Uint8Array} levels those that are recorded
  */
+
+/** @param {Uint8Array} bytes a report @returns {ReportIndex} */
 export function indexReport(bytes) {
   let count = 0;
   for (let at = bytes.indexOf(LINE_END); at >= 0; at = bytes.indexOf(LINE_END, at + 1)) count += 1;
@@ -31,8 +35,13 @@ export function indexReport(bytes) {
  */
 
 export class Report {
-  /** @param {Uint8Array} bytes @param {ReturnType<typeof indexReport>} index */
-  constructor(bytes, { lines, ports, levels }) { Object.assign(this, { bytes, lines, portLines: ports, levels }); }
+  /** @param {Uint8Array} bytes @param {ReportIndex} index */
+  constructor(bytes, { lines, ports, levels }) {
+    this.bytes = bytes;
+    this.lines = lines;
+    this.portLines = ports;
+    this.levels = levels;
+  }
 
   /** The number of ports. */
   get ports() { return this.portLines.length; }

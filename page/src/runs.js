@@ -3,6 +3,37 @@ import { ANSWER, MOST_TIMES } from './core.js';
 
 /** @typedef {import('./core.js').WrongField} WrongField */
 /** @typedef {import('./left.js').Margin} Margin */
+/** @typedef {import('./bus_times.js').PortIndex} PortIndex */
+/** @typedef {import('./report.js').ReportIndex} ReportIndex */
+
+/** @typedef {{times: Uint8Array, index: PortIndex}} PortReport what a port does, TIME_BYTES for each bit time */
+
+/**
+ * @typedef {object} Given what a worker is given, by the name of what it is asked
+ * @property {{text: Uint8Array}} report
+ * @property {{text: Uint8Array}} plan
+ * @property {{text: Uint8Array, frame: string}} makings
+ * @property {{text: Uint8Array}} left
+ * @property {{text: Uint8Array, name: Uint8Array}} worstCase
+ * @property {{text: Uint8Array, levels: Uint8Array}} ports
+ * @property {{text: Uint8Array, node: number, levels: Uint8Array}} port
+ */
+
+/**
+ * @typedef {object} Answered what it answers; what has no place in an answer other than ANSWER.done is null then
+ * @property {{answer: number, wrong: WrongField, report: Uint8Array, index: ReportIndex | null}} report
+ * @property {{answer: number, wrong: WrongField, late: number, lines: Uint8Array}} plan
+ * @property {{answer: number, lines: string[]}} makings
+ * @property {{answer: number, margins: Margin[]}} left
+ * @property {{answer: number, wrong: WrongField, scenario: Uint8Array}} worstCase
+ * @property {{answer: number, ports: PortReport[]}} ports
+ * @property {{answer: number, port: PortReport | null}} port
+ */
+
+/** @typedef {{answer?: undefined, failed: string}} Failed why a worker could not answer */
+
+/** @typedef {{[K in keyof Given]: {ask: K, given: Given[K]}}[keyof Given]} Asked */
+/** @typedef {{module: Uint8Array} | Asked} Message to a worker: the module at first, and then what is asked */
 
 /** No more workers than these, each of which takes as much memory as the page. */
 const MOST_WORKERS = 4;
@@ -14,25 +45,31 @@ class Runner {
     this.worker = new Worker(address);
     this.worker.postMessage({ module });
     this.busy = false;
+    this.giveUp = () => {};
   }
 
-  /** @param {object} asked @returns {Promise<object>} the answer, which is empty if the worker was ended */
-  ask(asked) {
+  /**
+   * @template {keyof Given} K
+   * @param {K} ask
+   * @param {Given[K]} given
+   * @returns {Promise<Answered[K] | Failed | null>} none if the worker was ended
+   */
+  ask(ask, given) {
     this.busy = true;
     return new Promise((resolve, reject) => {
-      this.giveUp = () => resolve({});
+      this.giveUp = () => resolve(null);
       this.worker.onmessage = ({ data }) => {
         this.busy = false;
         resolve(data);
       };
       this.worker.onerror = (event) => reject(new Error(event.message));
-      this.worker.postMessage(asked);
+      this.worker.postMessage({ ask, given });
     });
   }
 
   end() {
     this.worker.terminate();
-    this.giveUp?.();
+    this.giveUp();
   }
 }
 
@@ -47,7 +84,10 @@ export class Runs {
     this.ready(1);
   }
 
-  /** Makes this many workers, which wait for something to do. @param {number} count */
+  /**
+   * Makes this many workers, which wait for something to do.
+   * @param {number} count
+   */
   ready(count) {
     while (this.runners.length < count) this.runners.push(new Runner(this.address, this.module));
   }
@@ -62,47 +102,47 @@ export class Runs {
   /**
    * The report of a scenario, or what is wrong in it; none if another text came in the meantime.
    * @param {Uint8Array} text
-   * @returns {Promise<{answer: number, wrong: WrongField, report: Uint8Array} | null>}
    */
-  report(text) { return this.newest({ ask: 'report', text }); }
+  report(text) { return this.newest('report', { text }); }
 
   /**
    * The output for a network, or what is wrong in it; none if another text came in the meantime.
    * @param {Uint8Array} text
-   * @returns {Promise<{answer: number, wrong: WrongField, late: number, lines: Uint8Array} | null>}
    */
-  plan(text) { return this.newest({ ask: 'plan', text }); }
+  plan(text) { return this.newest('plan', { text }); }
 
   /**
    * The parts of the bound of a message in a network, as lines of the output; none if another text came in the meantime.
    * @param {Uint8Array} text
    * @param {string} frame of the message, with its DLC
-   * @returns {Promise<{answer: number, lines: string[]} | null>}
    */
-  makings(text, frame) { return this.newest({ ask: 'makings', text, frame }); }
+  makings(text, frame) { return this.newest('makings', { text, frame }); }
 
   /**
    * The margins of a network; none if another text came in the meantime.
    * @param {Uint8Array} text
-   * @returns {Promise<{answer: number, margins: Margin[]} | null>}
    */
-  left(text) { return this.newest({ ask: 'left', text }); }
+  left(text) { return this.newest('left', { text }); }
 
   /**
    * The worst case of a message in a network, as a scenario; none if another text came in the meantime.
    * @param {Uint8Array} text
    * @param {Uint8Array} name of the message
-   * @returns {Promise<{answer: number, scenario: Uint8Array} | null>}
    */
-  worstCase(text, name) { return this.newest({ ask: 'worstCase', text, name }); }
+  worstCase(text, name) { return this.newest('worstCase', { text, name }); }
 
-  /** The answer to what is asked, if nothing else was asked in the meantime. @param {object} asked */
-  async newest(asked) {
+  /**
+   * The answer to what is asked, if nothing else was asked in the meantime.
+   * @template {keyof Given} K
+   * @param {K} ask
+   * @param {Given[K]} given
+   */
+  async newest(ask, given) {
     this.number += 1;
     const { number } = this;
     this.drop();
-    const reported = await this.runners[0].ask(asked);
-    if (reported.failed) this.end(this.runners[0], reported);
+    const reported = await this.runners[0].ask(ask, given);
+    if (reported && 'failed' in reported) this.end(this.runners[0], reported.failed);
     return number === this.number ? reported : null;
   }
 
@@ -112,15 +152,15 @@ export class Runs {
    * @param {Uint8Array} levels those that are recorded
    * @param {number} count of ports
    * @param {() => number | undefined} next the port that is asked for next
-   * @param {(node: number, reported: {times: Uint8Array, index: object}) => void} onPort
+   * @param {(node: number, port: PortReport) => void} onPort
    * @returns {Promise<boolean>} whether no other text came in the meantime
    */
   async ports(text, levels, count, next, onPort) {
     const { number } = this;
     if (count * levels.length <= MOST_TIMES) {
       const [runner] = this.runners;
-      const reported = await runner.ask({ ask: 'ports', text, levels });
-      if (number !== this.number) return false;
+      const reported = await runner.ask('ports', { text, levels });
+      if (!reported || number !== this.number) return false;
       if (reported.answer === ANSWER.done) return this.hand(reported.ports, next, onPort);
       // there may be memory for one at a time
       this.runners = this.runners.filter((other) => other !== runner);
@@ -129,7 +169,12 @@ export class Runs {
     return this.portByPort(text, levels, count, next, onPort);
   }
 
-  /** Hands on ports, each in a task of its own, so that the page stays responsive. */
+  /**
+   * Hands on ports, each in a task of its own, so that the page stays responsive.
+   * @param {PortReport[]} ports
+   * @param {() => number | undefined} next
+   * @param {(node: number, port: PortReport) => void} onPort
+   */
   async hand(ports, next, onPort) {
     const { number } = this;
     for (let node = next(); node !== undefined; node = next()) {
@@ -140,22 +185,31 @@ export class Runs {
     return true;
   }
 
-  /** What each port does, from a run for each port, in all workers. */
+  /**
+   * What each port does, from a run for each port, in all workers.
+   * @param {Uint8Array} text
+   * @param {Uint8Array} levels those that are recorded
+   * @param {number} count of ports
+   * @param {() => number | undefined} next
+   * @param {(node: number, port: PortReport) => void} onPort
+   */
   async portByPort(text, levels, count, next, onPort) {
     const { number } = this;
     this.ready(Math.min(count, MOST_WORKERS, navigator.hardwareConcurrency || 1));
+    /** @type {number[]} */
     const left = [];
+    /** @param {Runner} runner @param {() => number | undefined} nextNode */
     const work = async (runner, nextNode) => {
       for (let node = nextNode(); node !== undefined && number === this.number; node = nextNode()) {
-        const reported = await runner.ask({ ask: 'port', text, node, levels });
-        if (number !== this.number) return;
-        if (reported.answer !== ANSWER.done) {
+        const reported = await runner.ask('port', { text, node, levels });
+        if (!reported || number !== this.number) return;
+        if (reported.answer === undefined || !reported.port) {
           // a browser may have memory for fewer workers
           left.push(node);
-          this.end(runner, reported);
+          this.end(runner, reported.answer === undefined ? reported.failed : 'a port was not computed');
           return;
         }
-        onPort(node, reported);
+        onPort(node, reported.port);
       }
     };
     await Promise.all(this.runners.map((runner) => work(runner, next)));
@@ -163,8 +217,12 @@ export class Runs {
     return number === this.number;
   }
 
-  /** Ends a worker that could not answer. */
-  end(runner, { failed = 'a port was not computed' }) {
+  /**
+   * Ends a worker that could not answer.
+   * @param {Runner} runner
+   * @param {string} failed
+   */
+  end(runner, failed) {
     runner.end();
     this.runners = this.runners.filter((other) => other !== runner);
     if (this.runners.length === 0) throw new Error(failed);

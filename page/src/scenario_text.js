@@ -18,12 +18,15 @@
  * @property {PortForm[]} ports
  */
 
-/** The names at the top, and those of a port. */
-const TOP = ['version', 'bits', 'at', 'in', 'view'];
+/** The names of hits, those at the top, and those of a port. */
+const HITS = /** @type {const} */ (['at', 'in', 'view']);
+const TOP = ['version', 'bits', ...HITS];
 const PART = ['queue', 'log', 'join', 'hold'];
 
 /** @returns {PortForm} */
 export const newPort = () => ({ queue: '', log: '', join: false, hold: '' });
+
+/** @typedef {Record<string, unknown>} Table the values of names */
 
 /**
  * A text without its comments.
@@ -32,33 +35,31 @@ export const newPort = () => ({ queue: '', log: '', join: false, hold: '' });
 const bare = (text) => text.replace(/("(?:[^"\\\n]|\\.)*")|#[^\n]*/g, (_, string) => string ?? '');
 
 /**
- * The tables of a text, each the values of its names, and the line of each name.
+ * The tables of a text: that of the names at the top, and those of ports.
  * @param {string} text
- * @returns {{tables: Array<Record<string, unknown>>, lines: Map<string, number>} | null} none if the form can't show it
+ * @returns {Table[] | null} none if the form can't show it
  */
-export function tablesIn(text) {
-  const tables = [{}];
-  const lines = new Map();
+function tablesIn(text) {
+  /** @type {Table} */
+  let table = {};
+  const tables = [table];
   const item = /\s*(?:\[\[\s*port\s*\]\]|([a-z]+)\s*=\s*(\[[^=]*?\](?=\s*(?:$|\n\s*(?:[a-z]|\[\[)))|"[^"\n]*"|[^\s"[\]]+))[ \t\r]*(?:\n|$)/y;
   const given = bare(text);
   const end = given.trimEnd().length;
   while (item.lastIndex < end) {
-    const from = item.lastIndex;
     const found = item.exec(given);
     if (!found) return null;
-    const line = given.slice(0, from + found[0].search(/\S/)).split('\n').length;
-    const port = tables.length - 2;
-    if (found[1] === undefined) {
-      tables.push({});
-      lines.set(`port[${port + 1}]`, line);
+    const [, name, written] = found;
+    if (name === undefined) {
+      table = {};
+      tables.push(table);
       continue;
     }
-    const value = valueOf(found[2]);
-    if (value === undefined || found[1] in tables.at(-1)) return null;
-    tables.at(-1)[found[1]] = value;
-    lines.set(port < 0 ? found[1] : `port[${port}].${found[1]}`, line);
+    const value = valueOf(written);
+    if (value === undefined || name in table) return null;
+    table[name] = value;
   }
-  return { tables, lines };
+  return tables;
 }
 
 /** @param {string} text a value as it is written */
@@ -71,22 +72,31 @@ function valueOf(text) {
 }
 
 /**
+ * Whether a table has no other names than these.
+ * @param {Table} table
+ * @param {readonly string[]} names
+ */
+const hasOnly = (table, names) => Object.keys(table).every((name) => names.includes(name));
+
+/** @param {unknown} items @returns {unknown[]} none if they are no array */
+const itemsOf = (items) => (Array.isArray(items) ? items : []);
+
+/**
  * The form of a text.
  * @param {string} text
  * @returns {ScenarioForm | null} none if the form can't show it
  */
 export function formOf(text) {
-  const found = tablesIn(text);
-  if (!found) return null;
-  const [top, ...ports] = found.tables;
-  if (Object.keys(top).some((name) => !TOP.includes(name)) || ports.some((port) => Object.keys(port).some((name) => !PART.includes(name)))) return null;
+  const [top, ...ports] = tablesIn(text) ?? [];
+  if (!top || !hasOnly(top, TOP) || !ports.every((port) => hasOnly(port, PART))) return null;
   const lists = [top.at, top.in, top.view, ...ports.map((port) => port.queue)];
   if (lists.some((items) => items !== undefined && !Array.isArray(items))) return null;
-  const list = (items) => (items === undefined ? '' : JSON.stringify(items).slice(1, -1).replaceAll(',', ', '));
+  /** @param {unknown} items */
+  const list = (items) => JSON.stringify(itemsOf(items)).slice(1, -1).replaceAll(',', ', ');
   return {
     version: String(top.version ?? ''), bits: String(top.bits ?? ''), at: list(top.at), in: list(top.in), view: list(top.view),
     ports: ports.map((port) => ({
-      queue: (port.queue ?? []).map((entry) => (Array.isArray(entry) ? entry.join(' ') : String(entry))).join('\n'),
+      queue: itemsOf(port.queue).map((entry) => (Array.isArray(entry) ? entry.join(' ') : String(entry))).join('\n'),
       log: String(port.log ?? ''), join: port.join === true, hold: String(port.hold ?? ''),
     })),
   };
@@ -99,8 +109,10 @@ export function formOf(text) {
  */
 export function textOf(form) {
   const top = [`version = ${form.version}`, `bits = ${form.bits}`];
-  if (form.version !== '2') for (const name of ['at', 'in', 'view']) if (form[name].trim()) top.push(`${name} = [${form[name].trim()}]`);
-  return [top, ...form.ports.map((port) => portLines(port, form.version))].map((lines) => `${lines.join('\n')}\n`).join('\n');
+  const hits = form.version === '2' ? [] : HITS.filter((name) => form[name].trim());
+  for (const name of hits) top.push(`${name} = [${form[name].trim()}]`);
+  const tables = [top, ...form.ports.map((port) => portLines(port, form.version))];
+  return tables.map((lines) => `${lines.join('\n')}\n`).join('\n');
 }
 
 /**
@@ -110,7 +122,8 @@ export function textOf(form) {
 function portLines(port, version) {
   const lines = ['[[port]]'];
   const frames = port.queue.split('\n').map((frame) => frame.trim()).filter((frame) => frame !== '');
-  if (frames.length > 0) lines.push(`queue = [${frames.map((frame) => (version === '2' ? timed(frame) : JSON.stringify(frame))).join(', ')}]`);
+  const entries = frames.map((frame) => (version === '2' ? timed(frame) : JSON.stringify(frame)));
+  if (entries.length > 0) lines.push(`queue = [${entries.join(', ')}]`);
   if (port.log.trim()) lines.push(`log = ${port.log.trim()}`);
   if (port.join) lines.push('join = true');
   if (port.hold.trim()) lines.push(`hold = ${port.hold.trim()}`);
@@ -119,6 +132,6 @@ function portLines(port, version) {
 
 /** @param {string} frame with its time in front, or otherwise at time 0 */
 function timed(frame) {
-  const [, time, text] = /^(?:(\d+)\s+(?=[A-Z]))?(.*)$/.exec(frame);
-  return `[${time ?? 0}, ${JSON.stringify(text)}]`;
+  const [front = '', time = '0'] = /^(\d+)\s+(?=[A-Z])/.exec(frame) ?? [];
+  return `[${time}, ${JSON.stringify(frame.slice(front.length))}]`;
 }

@@ -11,6 +11,7 @@ import { TEXT_FAULTS } from './words.js';
  */
 export function textFault(bytes, answer, place) {
   const { code, wrong, expected } = TEXT_FAULTS[answer];
+  /** @param {number} from @param {number} to */
   const textOf = (from, to) => new TextDecoder().decode(bytes.subarray(from, to));
   // a character may have more than one byte
   let end = place + 1;

@@ -38,6 +38,7 @@ export class Timeline {
     this.span = FEWEST;
     this.picked = -1;
     this.width = 0;
+    this.dragged = false;
     new ResizeObserver(() => {
       if (this.room.clientWidth !== this.width) this.draw();
     }).observe(room);
@@ -91,6 +92,7 @@ export class Timeline {
    */
   pick(line) {
     this.picked = line;
+    if (!this.traced) return;
     const { findings, endOf } = this.traced;
     const start = findings.starts[line];
     const length = endOf(line) - start;
@@ -107,23 +109,27 @@ export class Timeline {
       this.zoom(event.deltaY > 0 ? 1.25 : 0.8, this.share(event));
     }, { passive: false });
     this.room.addEventListener('keydown', (event) => {
-      const action = {
-        ArrowLeft: () => this.pan(-0.25), ArrowRight: () => this.pan(0.25), '+': () => this.zoom(0.5), '=': () => this.zoom(0.5),
-        '-': () => this.zoom(2), Home: () => this.view(0, this.span), End: () => this.view(this.total, this.span), 0: () => this.whole(),
-      }[event.key];
+      /** @type {Record<string, () => void>} */
+      const actions = {
+        ArrowLeft: () => this.pan(-0.25), ArrowRight: () => this.pan(0.25),
+        '+': () => this.zoom(0.5), '=': () => this.zoom(0.5), '-': () => this.zoom(2), 0: () => this.whole(),
+        Home: () => this.view(0, this.span), End: () => this.view(this.total, this.span),
+      };
+      const action = actions[event.key];
       if (!action || event.ctrlKey || event.altKey || event.metaKey) return;
       event.preventDefault();
       action();
     });
     this.room.addEventListener('click', (event) => {
       if (!this.traced || this.dragged) return;
-      const line = this.lineNear(this.from + this.share(event) * this.span);
+      const line = this.lineNear(this.traced, this.from + this.share(event) * this.span);
       if (line >= 0) this.onPick(line);
     });
     this.listenToDrags();
   }
 
   listenToDrags() {
+    /** @type {{x: number, from: number} | null} */
     let begun = null;
     this.room.addEventListener('pointerdown', (event) => {
       begun = { x: event.clientX, from: this.from };
@@ -144,11 +150,11 @@ export class Timeline {
   }
 
   /**
+   * @param {Traced} traced
    * @param {number} place
    * @returns {number} the finding there, or the nearest within eight pixels, or -1
    */
-  lineNear(place) {
-    const { findings, endOf } = this.traced;
+  lineNear({ findings, endOf }, place) {
     const slack = (8 / this.width) * this.span;
     const next = findings.firstFrom(Math.floor(place) + 1);
     if (next > 0 && place < endOf(next - 1) + slack) return next - 1;
@@ -163,14 +169,16 @@ export class Timeline {
   draw() {
     this.width = this.room.clientWidth;
     this.room.replaceChildren();
-    if (!this.traced || this.width === 0) return;
-    const { findings } = this.traced;
+    const { traced } = this;
+    if (!traced || this.width === 0) return;
+    const { findings } = traced;
     // what begins before the view may reach into it
     const first = Math.max(0, findings.firstFrom(Math.floor(this.from)) - 1);
     const last = findings.firstFrom(Math.ceil(this.from + this.span));
-    const inside = last - first > MOST_DRAWN ? this.crowd(first, last) : this.single(first, last);
-    this.room.append(svg('svg', { class: 'time', width: this.width, height: HEIGHT, viewBox: `0 0 ${this.width} ${HEIGHT}`, 'aria-hidden': 'true' },
-      [...this.axis(), ...inside, ...this.wave()]));
+    const inside = last - first > MOST_DRAWN ? this.crowd(traced, first, last) : this.single(traced, first, last);
+    this.room.append(svg('svg', {
+      class: 'time', width: this.width, height: HEIGHT, viewBox: `0 0 ${this.width} ${HEIGHT}`, 'aria-hidden': 'true',
+    }, [...this.axis(), ...inside, ...this.wave(traced)]));
   }
 
   /** The places at the top. */
@@ -180,32 +188,35 @@ export class Timeline {
     for (let place = Math.ceil(this.from / step) * step; place <= this.from + this.span; place += step) {
       const x = this.x(place);
       if (x > this.width - 8) break;
-      ticks.push(svg('path', { class: 'tick', d: `M${x} ${AXIS}V${HEIGHT}` }), svg('text', { class: 'place', x: x + 3, y: 12 }, [place.toLocaleString('en')]));
+      ticks.push(svg('path', { class: 'tick', d: `M${x} ${AXIS}V${HEIGHT}` }));
+      ticks.push(svg('text', { class: 'place', x: x + 3, y: 12 }, [place.toLocaleString('en')]));
     }
     return ticks;
   }
 
   /**
    * Findings one by one.
+   * @param {Traced} traced
    * @param {number} first
    * @param {number} last
    */
-  single(first, last) {
+  single(traced, first, last) {
     const drawn = [];
-    for (let line = first; line < last; line += 1) drawn.push(...this.findingMarks(line));
+    for (let line = first; line < last; line += 1) drawn.push(...this.findingMarks(traced, line));
     return drawn;
   }
 
-  /** @param {number} line */
-  findingMarks(line) {
-    const { findings, endOf } = this.traced;
+  /** @param {Traced} traced @param {number} line */
+  findingMarks({ findings, endOf }, line) {
     const left = Math.max(this.x(findings.starts[line]), -2);
     const right = Math.min(this.x(endOf(line)), this.width + 2);
     if (right < 0) return [];
     const fault = findings.isFault[line] === 1;
     const width = Math.max(right - left - 1, 1);
+    /** @type {SVGElement[]} */
     const marks = [svg('rect', {
-      class: `${fault ? 'lost' : 'frame'}${line === this.picked ? ' picked' : ''}`, x: left, y: LANE, width, height: LANE_HEIGHT, rx: Math.min(3, width / 4), 'data-line': line,
+      class: `${fault ? 'lost' : 'frame'}${line === this.picked ? ' picked' : ''}`, x: left, y: LANE, width, height: LANE_HEIGHT,
+      rx: Math.min(3, width / 4), 'data-line': line,
     })];
     const found = findings.at(line);
     const label = fault ? found.fault : found.frame;
@@ -227,12 +238,14 @@ export class Timeline {
 
   /**
    * Many findings, drawn together where they begin.
+   * @param {Traced} traced
    * @param {number} first
    * @param {number} last
    */
-  crowd(first, last) {
-    const { findings } = this.traced;
+  crowd({ findings }, first, last) {
+    /** @type {Set<number>} */
     const frames = new Set();
+    /** @type {Set<number>} */
     const faults = new Set();
     for (let line = first; line < last; line += 1) {
       (findings.isFault[line] ? faults : frames).add(Math.floor(this.x(findings.starts[line])));
@@ -243,9 +256,11 @@ export class Timeline {
     ];
   }
 
-  /** The levels, if there is space for them. */
-  wave() {
-    const { levels } = this.traced;
+  /**
+   * The levels, if there is space for them.
+   * @param {Traced} traced
+   */
+  wave({ levels }) {
     if (this.width / this.span < LEVEL_ROOM) return [];
     const start = Math.floor(this.from);
     const end = Math.min(Math.ceil(this.from + this.span), levels.length);

@@ -3,19 +3,35 @@
  * is written there: the proved code decides whether a text is a document, and what it means.
  */
 
+
+/** @typedef {import('./draw.js').Inside} Inside */
 const BARE = /[A-Za-z0-9_-]+/y;
 const BLANKS = /[ \t]*/y;
 const COMMENT = /#[^\n]*/y;
 const LINE_END = /\r?\n/y;
-const LITERAL = /(?:true|false|[+-]?(?:inf|nan)|\d{4}-\d\d-\d\d(?:[Tt ]\d\d:\d\d(?::\d\d(?:\.\d+)?)?(?:[Zz]|[+-]\d\d:\d\d)?)?|\d\d:\d\d(?::\d\d(?:\.\d+)?)?|0x[\dA-Fa-f]+(?:_[\dA-Fa-f]+)*|0o[0-7]+(?:_[0-7]+)*|0b[01]+(?:_[01]+)*|[+-]?(?:0|[1-9](?:_?\d)*)(?:\.\d(?:_?\d)*)?(?:[eE][+-]?\d(?:_?\d)*)?)(?![\w.+-])/y;
+const DATE = String.raw`\d{4}-\d\d-\d\d(?:[Tt ]\d\d:\d\d(?::\d\d(?:\.\d+)?)?(?:[Zz]|[+-]\d\d:\d\d)?)?`;
+const TIME = String.raw`\d\d:\d\d(?::\d\d(?:\.\d+)?)?`;
+const BASED = String.raw`0x[\dA-Fa-f]+(?:_[\dA-Fa-f]+)*|0o[0-7]+(?:_[0-7]+)*|0b[01]+(?:_[01]+)*`;
+const DECIMAL = String.raw`[+-]?(?:0|[1-9](?:_?\d)*)(?:\.\d(?:_?\d)*)?(?:[eE][+-]?\d(?:_?\d)*)?`;
+const LITERAL = new RegExp(String.raw`(?:true|false|[+-]?(?:inf|nan)|${DATE}|${TIME}|${BASED}|${DECIMAL})(?![\w.+-])`, 'y');
 const WHOLE = /^[+-]?\d[\d_]*$|^0[xob]/;
 const ESCAPE = /\\(?:[btnfre"\\]|x[\dA-Fa-f]{2}|u[\dA-Fa-f]{4}|U[\dA-Fa-f]{8})/y;
 const LONG_ESCAPE = /\\(?:[btnfre"\\]|x[\dA-Fa-f]{2}|u[\dA-Fa-f]{4}|U[\dA-Fa-f]{8}|[ \t]*\r?\n\s*)/y;
 const LEAST = -(2n ** 63n);
 const MOST = 2n ** 63n - 1n;
 
+/** @typedef {{table: string, name: string, offset: number}} Name of a table or of a value in it */
+
+/**
+ * @typedef {Pick<Scanner, 'places' | 'strings' | 'literals' | 'names'> & {stopped: Stopped | null}} Scanned what is found
+ * @typedef {{offset: number, message: string}} Stopped where a text stops being a document, and why
+ */
+
+/** @typedef {{offset?: number, inside: Inside}} Detail the offset of what is wrong, and words about it */
+
 /** A text stops being a document here. */
 class Stop extends Error {
+  /** @param {number} offset @param {string} what */
   constructor(offset, what) {
     super(what);
     this.offset = offset;
@@ -25,18 +41,25 @@ class Stop extends Error {
 class Scanner {
   /** @param {string} text */
   constructor(text) {
-    Object.assign(this, { text, at: 0, table: '', arrays: new Map() });
+    this.text = text;
+    this.at = 0;
+    this.table = '';
+    /** @type {Map<string, number>} how many tables each array has, by its name */
+    this.arrays = new Map();
     /** @type {Map<string, number>} the offset of each value, by its path */
     this.places = new Map();
     /** @type {Map<string, string>} the strings, by their paths */
     this.strings = new Map();
     /** @type {Map<string, string>} numbers, truth values and times as they are written, by their paths */
     this.literals = new Map();
-    /** @type {Array<{table: string, name: string, offset: number}>} the names, in their order */
+    /** @type {Name[]} in their order */
     this.names = [];
   }
 
-  /** What matches here, or nothing. */
+  /**
+   * What matches here, or nothing.
+   * @param {RegExp} pattern
+   */
   take(pattern) {
     pattern.lastIndex = this.at;
     const found = pattern.exec(this.text);
@@ -45,14 +68,21 @@ class Scanner {
     return found[0];
   }
 
+  /** @param {string} word */
   skip(word) {
     if (!this.text.startsWith(word, this.at)) return false;
     this.at += word.length;
     return true;
   }
 
+  /** @param {string} word @param {string} where */
   need(word, where) { if (!this.skip(word)) this.stop(`${where}, “${word}” was expected here`); }
 
+  /**
+   * @param {string} what
+   * @param {number} [offset]
+   * @returns {never}
+   */
   stop(what, offset = this.at) { throw new Stop(offset, what); }
 
   document() {
@@ -64,7 +94,9 @@ class Scanner {
     }
   }
 
-  isLineEnd() { return this.at >= this.text.length || this.text[this.at] === '#' || /^\r?\n/.test(this.text.slice(this.at, this.at + 2)); }
+  isLineEnd() {
+    return this.at >= this.text.length || this.text[this.at] === '#' || /^\r?\n/.test(this.text.slice(this.at, this.at + 2));
+  }
 
   lineEnd() {
     this.take(BLANKS);
@@ -79,7 +111,7 @@ class Scanner {
     if (!isArray) this.skip('[');
     const parts = this.key();
     this.need(isArray ? ']]' : ']', 'after the name of a table');
-    const name = parts.map((part, depth) => (depth + 1 < parts.length && this.arrays.has(part) ? `${part}[${this.arrays.get(part) - 1}]` : part)).join('.');
+    const name = parts.map((part, depth) => (depth + 1 < parts.length ? this.current(part) : part)).join('.');
     if (isArray && this.places.has(name) && !this.arrays.has(name)) this.stop(`“${name}” is no array of tables`, offset);
     if (!isArray && this.places.has(name)) this.stop(`the name “${name}” is used again here`, offset);
     const count = this.arrays.get(name) ?? 0;
@@ -89,6 +121,21 @@ class Scanner {
     this.places.set(this.table, offset);
   }
 
+  /**
+   * A table, or the last one of an array of tables.
+   * @param {string} name
+   */
+  current(name) {
+    const count = this.arrays.get(name);
+    return count === undefined ? name : `${name}[${count - 1}]`;
+  }
+
+  /**
+   * @param {string} table
+   * @param {string} name
+   * @param {number} offset
+   * @param {string} path
+   */
   note(table, name, offset, path) {
     this.names.push({ table, name, offset });
     if (!this.places.has(path)) this.places.set(path, offset);
@@ -108,7 +155,10 @@ class Scanner {
     return parts;
   }
 
-  /** A name and its value. */
+  /**
+   * A name and its value.
+   * @param {string} table
+   */
   pair(table) {
     const offset = this.at;
     const parts = this.key();
@@ -120,6 +170,7 @@ class Scanner {
     this.value(path);
   }
 
+  /** @param {string} path */
   value(path) {
     const offset = this.at;
     this.places.set(path, offset);
@@ -130,6 +181,7 @@ class Scanner {
     else this.literals.set(path, this.literal(offset));
   }
 
+  /** @param {number} offset */
   literal(offset) {
     const word = this.take(LITERAL);
     if (word === null) this.stop('a value was expected here');
@@ -140,14 +192,17 @@ class Scanner {
     return word;
   }
 
+  /** @param {string} sign */
   string(sign) {
     const long = sign.repeat(3);
     return this.skip(long) ? this.longString(long) : this.shortString(sign);
   }
 
+  /** @param {string} sign */
   shortString(sign) {
     const offset = this.at;
     this.at += 1;
+    /** @param {string | undefined} letter */
     const end = (letter) => letter === undefined || letter === '\n';
     while (this.text[this.at] !== sign) {
       if (end(this.text[this.at])) this.stop('this string does not end on its line', offset);
@@ -158,6 +213,7 @@ class Scanner {
     return sign === '"' && inside.includes('\\') ? unescaped(inside) : inside;
   }
 
+  /** @param {string} long three quotes */
   longString(long) {
     const offset = this.at;
     while (!this.skip(long)) {
@@ -170,6 +226,7 @@ class Scanner {
     return inside;
   }
 
+  /** @param {boolean} escapes whether there are escapes @param {RegExp} pattern of these */
   letter(escapes, pattern) {
     const letter = this.text[this.at];
     if (escapes && letter === '\\') {
@@ -180,6 +237,7 @@ class Scanner {
     this.at += 1;
   }
 
+  /** @param {string} path */
   array(path) {
     this.at += 1;
     for (let element = 0; ; element += 1) {
@@ -196,6 +254,7 @@ class Scanner {
   /** Spaces, line ends and comments. */
   gap() { while (this.take(/[ \t\r\n]+/y) !== null || this.take(COMMENT) !== null); }
 
+  /** @param {string} path */
   inline(path) {
     this.at += 1;
     for (;;) {
@@ -219,9 +278,9 @@ function unescaped(inside) {
 }
 
 /**
+ * What is found in a text, up to where it stops being a document.
  * @param {string} text
- * @returns {Pick<Scanner, 'places' | 'strings' | 'literals' | 'names'> & {stopped: {offset: number, message: string} | null}} what was found, up to
- *   where the text stops being a document
+ * @returns {Scanned}
  */
 export function scanned(text) {
   const scanner = new Scanner(text);
@@ -241,20 +300,28 @@ export function scanned(text) {
  * @param {number} offset
  * @returns {{line: number, column: number}} both from 1 on
  */
-export function lineAndColumn(text, offset) {
+function lineAndColumn(text, offset) {
   const before = text.slice(0, offset);
   const start = before.lastIndexOf('\n') + 1;
   return { line: before.split('\n').length, column: [...before.slice(start)].length + 1 };
 }
 
-/** A place in a text, in words. @param {string} text @param {number | undefined} offset */
+/**
+ * A place in a text, in words.
+ * @param {string} text
+ * @param {number | undefined} offset
+ */
 export function placeWords(text, offset) {
   if (offset === undefined) return '';
   const { line, column } = lineAndColumn(text, offset);
   return ` (line ${line}, column ${column})`;
 }
 
-/** Where a text stops being a document, and why. @param {ReturnType<typeof scanned>} found */
+/**
+ * Where a text stops being a document, and why.
+ * @param {Scanned} found
+ * @returns {Detail}
+ */
 export function stopWords({ stopped }) {
   if (!stopped) return { inside: [] };
   return { offset: stopped.offset, inside: [` ${stopped.message[0].toUpperCase()}${stopped.message.slice(1)}.`] };
@@ -262,9 +329,10 @@ export function stopWords({ stopped }) {
 
 /**
  * The first name of a table that is none of its own.
- * @param {ReturnType<typeof scanned>} found
+ * @param {Scanned} found
  * @param {string} table
- * @param {string[]} known
+ * @param {readonly string[]} known
+ * @returns {Detail}
  */
 export function firstUnknown({ names }, table, known) {
   const wrong = names.find((one) => one.table === table && !known.includes(one.name));

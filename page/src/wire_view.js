@@ -3,7 +3,7 @@ import { html } from './draw.js';
 import { bytesIn, digitsOf, hexadecimal, letLook, levelRule, levelWords, lookAt, pictureOf, spansOf } from './picture.js';
 import { FIELD, FIELDS } from './words.js';
 
-/** @typedef {import('./picture.js').Wire & {id: string, name: string}} NamedWire */
+/** @typedef {import('./picture.js').NamedWire} NamedWire */
 
 export class WireView {
   /**
@@ -49,10 +49,13 @@ export class WireView {
     this.words.replaceChildren(html('strong', {}, [`${levelWords(this.wire, index)}.`]), ` ${levelRule(this.wire, index)}`);
   }
 
-  /** Marks a level as one that is looked at, if there is one. @param {number} index */
+  /**
+   * Marks a level as one that is looked at, if there is one.
+   * @param {number} index
+   */
   focus(index) {
     const level = this.room.querySelector(`[data-index="${index}"]`);
-    if (level) lookAt(this.room, level, (found) => this.look(found));
+    if (level instanceof SVGElement) lookAt(this.room, level, (found) => this.look(found));
     else if (this.wire && index < this.wire.levels.length) this.look(index);
   }
 
@@ -85,6 +88,7 @@ function levelsOf(wire, { from, to }) {
  */
 function numberOf(wire, span) {
   // of a field in which a fault shows the number is not known
+  /** @param {import('./picture.js').Span} part */
   const isWhole = ({ to }) => wire.fault === null || wire.fault >= to;
   if (!isWhole(span)) return [];
   const number = hexadecimal(digitsOf(wire, span));

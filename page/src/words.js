@@ -14,7 +14,10 @@ export const FIELDS = Object.freeze([
   { short: 'ID', name: 'Identifier', rule: 'What the frame is about, and how urgent it is: highest bit first, and the lowest number wins arbitration.' },
   { short: 'R?', name: 'RTR or SRR', rule: 'The levels end before the IDE bit, which decides between the two.' },
   { short: 'RTR', name: 'Remote transmission request', rule: 'Dominant in a data frame, recessive in a remote frame.' },
-  { short: 'SRR', name: 'Substitute remote request', rule: 'In an extended frame it is at the place of the RTR bit of a standard frame. It is sent recessive, and accepted at either value.' },
+  {
+    short: 'SRR', name: 'Substitute remote request',
+    rule: 'In an extended frame it is at the place of the RTR bit of a standard frame. It is sent recessive, and accepted at either value.',
+  },
   { short: 'IDE', name: 'Identifier extension', rule: 'Dominant in a standard frame, recessive in an extended one, in which 18 more identifier bits follow.' },
   { short: 'r1', name: 'Reserved bit r1', rule: 'Sent dominant, and accepted at either value.' },
   { short: 'r0', name: 'Reserved bit r0', rule: 'Sent dominant, and accepted at either value.' },
@@ -50,10 +53,16 @@ export const FAULTS = Object.freeze({
 /** @type {Readonly<Record<number, {code: string, wrong: string, expected: string}>>} faults of a frame text */
 export const TEXT_FAULTS = Object.freeze({
   [ANSWER.letter]: { code: 'X1', wrong: 'the kind letter', expected: 'S (standard) or E (extended), and a space, were expected' },
-  [ANSWER.identifier]: { code: 'X2', wrong: 'the identifier', expected: 'three lower-case hexadecimal digits up to 7ff were expected after S, or eight up to 1fffffff after E, and a space' },
+  [ANSWER.identifier]: {
+    code: 'X2', wrong: 'the identifier',
+    expected: 'three lower-case hexadecimal digits up to 7ff were expected after S, or eight up to 1fffffff after E, and a space',
+  },
   [ANSWER.direction]: { code: 'X3', wrong: 'the direction', expected: 'D (data) or R (remote), and a space, were expected' },
   [ANSWER.dlc]: { code: 'X4', wrong: 'the DLC', expected: 'a number from 0 to 15 with no leading zero was expected, and a space if data follow' },
-  [ANSWER.data]: { code: 'X5', wrong: 'the data', expected: 'two lower-case hexadecimal digits for each byte were expected, and the number of bytes of the DLC (9 to 15 mean eight)' },
+  [ANSWER.data]: {
+    code: 'X5', wrong: 'the data',
+    expected: 'two lower-case hexadecimal digits for each byte were expected, and the number of bytes of the DLC (9 to 15 mean eight)',
+  },
   [ANSWER.trailing]: { code: 'X6', wrong: 'what follows the frame', expected: 'the text was expected to end here' },
 });
 

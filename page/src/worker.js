@@ -5,7 +5,11 @@ import { indexOf } from './bus_times.js';
 import { marginsOf } from './left.js';
 import { indexReport } from './report.js';
 
-/** @type {Promise<Core> | null} */
+/** @typedef {import('./runs.js').Message} Message */
+/** @typedef {import('./runs.js').Given} Given */
+/** @typedef {import('./runs.js').Answered} Answered */
+
+/** @type {Promise<Core | null> | null} */
 let core = null;
 
 /** @param {Record<string, Uint8Array | Uint32Array>} index */
@@ -13,12 +17,12 @@ const buffersOf = (index) => Object.values(index).map((list) => list.buffer);
 
 /**
  * The answers to what the page asks, and what of them is handed over rather than copied.
- * @type {Readonly<Record<string, (core: Core, asked: object) => {reported: object, handed: ArrayBuffer[]}>>}
+ * @type {Readonly<{[K in keyof Given]: (core: Core, given: Given[K]) => {reported: Answered[K], handed: ArrayBufferLike[]}}>}
  */
 const ANSWERS = Object.freeze({
   report: (code, { text }) => {
     const reported = code.run(text);
-    if (reported.answer !== ANSWER.done) return { reported, handed: [] };
+    if (reported.answer !== ANSWER.done) return { reported: { ...reported, index: null }, handed: [] };
     const index = indexReport(reported.report);
     return { reported: { ...reported, index }, handed: [reported.report.buffer, ...buffersOf(index)] };
   },
@@ -50,19 +54,33 @@ const ANSWERS = Object.freeze({
   },
   port: (code, { text, node, levels }) => {
     const { answer, times } = code.portTimes(text, node);
-    if (answer !== ANSWER.done) return { reported: { answer }, handed: [] };
+    if (answer !== ANSWER.done) return { reported: { answer, port: null }, handed: [] };
     const index = indexOf(times, levels);
-    return { reported: { answer, times, index }, handed: [times.buffer, ...buffersOf(index)] };
+    return { reported: { answer, port: { times, index } }, handed: [times.buffer, ...buffersOf(index)] };
   },
 });
 
+/**
+ * @template {keyof Given} K
+ * @param {Core | null} code
+ * @param {K} ask
+ * @param {Given[K]} given
+ */
+function answered(code, ask, given) {
+  if (!code) throw new Error('this browser does not support the WebAssembly of the proved code');
+  return ANSWERS[ask](code, given);
+}
+
+/** @param {MessageEvent<Message>} event with the module at first, and then what is asked */
 globalThis.onmessage = async ({ data }) => {
+  if ('module' in data) {
+    core = Core.load(data.module);
+    return;
+  }
   try {
-    core ??= Core.load(data.module);
-    if (!data.ask) return;
-    const { reported, handed } = ANSWERS[data.ask](await core, data);
+    const { reported, handed } = answered(await core, data.ask, data.given);
     globalThis.postMessage(reported, handed);
   } catch (error) {
-    if (data.ask) globalThis.postMessage({ failed: error.message });
+    globalThis.postMessage({ failed: error instanceof Error ? error.message : String(error) });
   }
 };

@@ -14,7 +14,10 @@ const OFFER = /^ {4}\[(\d+), "(\S+ \S+ \S+) /;
  * @property {number[]} offers the bit times for which they are offered
  */
 
-/** The name of a message as canplan takes it: its frame's text before the space and the DLC. @param {string} frame */
+/**
+ * The name of a message as canplan takes it: its frame's text before the space and the DLC.
+ * @param {string} frame
+ */
 export const nameOf = (frame) => frame.slice(0, frame.lastIndexOf(' '));
 
 /**
@@ -24,6 +27,7 @@ export const nameOf = (frame) => frame.slice(0, frame.lastIndexOf(' '));
  * @returns {WorstCase}
  */
 export function worstCaseOf(scenario, { frame, bound }, isHit) {
+  /** @type {WorstCase} */
   const found = { scenario, frame, name: nameOf(frame), bound, isHit, port: 0, offers: [] };
   let port = -1;
   for (const line of scenario.split('\n')) {
@@ -58,8 +62,20 @@ export function worstCaseWords({ frame, bound, isHit, port }, latest) {
   const whole = `The worst case of ${frame} without hits`;
   if (latest === null) return `${whole}.`;
   const { offer, end, wait } = latest;
-  const bounded = wait === bound ? ', which is its bound.' : `. Its bound, ${shown(bound)}, also counts ${isHit ? 'its jitter and hits' : 'its jitter'}.`;
-  return `${whole}: its latest frame, of port ${port}, is offered before bit time ${shown(offer)} and ends with bit time ${shown(end - 1)}, ${shown(wait)} bit times after its offer${bounded}`;
+  const times = `is offered before bit time ${shown(offer)} and ends with bit time ${shown(end - 1)}`;
+  return `${whole}: its latest frame, of port ${port}, ${times}, ${shown(wait)} bit times after its offer${boundWords(wait, bound, isHit)}`;
+}
+
+/**
+ * How long the latest frame waits, compared with the bound of its message.
+ * @param {number} wait
+ * @param {number | null} bound
+ * @param {boolean} isHit
+ */
+function boundWords(wait, bound, isHit) {
+  if (bound === null) return '. With hits it has no bound.';
+  if (wait === bound) return ', which is its bound.';
+  return `. Its bound, ${shown(bound)}, also counts ${isHit ? 'its jitter and hits' : 'its jitter'}.`;
 }
 
 /** @param {number} time */

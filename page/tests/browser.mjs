@@ -23,7 +23,9 @@ export class Browser {
       for (const { method, reject } of this.waiting.values()) reject(new Error(`${method}: the browser has ended (${code ?? signal})`));
     });
     let text = '';
-    this.process.stdio[4].setEncoding('utf8').on('data', (data) => {
+    const [, , , asked, answered] = this.process.stdio;
+    this.asked = /** @type {import('node:stream').Writable} */ (asked);
+    /** @type {import('node:stream').Readable} */ (answered).setEncoding('utf8').on('data', (data) => {
       text += data;
       for (let end = text.indexOf('\0'); end >= 0; end = text.indexOf('\0')) {
         this.hear(JSON.parse(text.slice(0, end)));
@@ -49,14 +51,14 @@ export class Browser {
       const timer = setTimeout(() => reject(new Error(`${method}: no answer`)), WAIT);
       const done = (then) => (value) => { clearTimeout(timer); then(value); };
       this.waiting.set(id, { method, resolve: done(resolve), reject: done(reject) });
-      this.process.stdio[3].write(`${JSON.stringify({ id, method, params, sessionId })}\0`);
+      this.asked.write(`${JSON.stringify({ id, method, params, sessionId })}\0`);
     });
   }
 
   /**
    * Opens a page.
    * @param {string} address
-   * @param {{width?: number, height?: number, dark?: boolean, still?: boolean, before?: string}} [how]
+   * @param {{width?: number, height?: number, dark?: boolean, still?: boolean, before?: string}} how
    */
   async open(address, { width = 1280, height = 1000, dark = false, still = false, before = '' } = {}) {
     const { targetId } = await this.call('Target.createTarget', { url: 'about:blank' });
@@ -98,9 +100,15 @@ async function remove(folder) {
 /** Keys that are not one letter. */
 const KEY_CODES = { Tab: 9, Enter: 13, End: 35, Home: 36, ArrowLeft: 37, ArrowUp: 38, ArrowRight: 39, ArrowDown: 40 };
 
-class Page {
+export class Page {
+  /** @param {Browser} browser @param {string} targetId @param {string} sessionId */
   constructor(browser, targetId, sessionId) {
-    Object.assign(this, { browser, targetId, sessionId, errors: [], requests: [], waits: [] });
+    this.browser = browser;
+    this.targetId = targetId;
+    this.sessionId = sessionId;
+    this.errors = [];
+    this.requests = [];
+    this.waits = [];
     browser.listeners.push((message) => {
       if (message.sessionId === sessionId) this.hear(message);
     });
@@ -114,7 +122,7 @@ class Page {
     this.waits = this.waits.filter((wait) => wait.method !== method || wait.resolve(params));
   }
 
-  call(method, params) {
+  call(method, params = {}) {
     return this.browser.call(method, params, this.sessionId);
   }
 

@@ -7,6 +7,7 @@ const PORTS = '[[port]]\nqueue = ["S 001 D 0"]\n\n[[port]]\nqueue = ["S 000 D 0"
 /**
  * Each kind of wrong field, in the order of docs/FORMATS.md: a text, the field as canbit names it, its line and column, and
  * the field of the form.
+ * @type {Array<[string, string, [number, number] | null, string[]]>}
  */
 const WRONG = [
   ['version = ', 'toml', [1, 11], []],
@@ -31,6 +32,7 @@ const WRONG = [
 ];
 
 /** Texts that are no TOML: each with the line and column at which they stop being so, and the words. */
+/** @type {Array<[string, [number, number], RegExp]>} */
 const NO_TOML = [
   ['version = 1\nbits = 8 8\n[[port]]', [2, 10], /end of the line was expected/],
   ['version = 1\nbits = 08\n[[port]]', [2, 8], /value was expected/],
@@ -83,6 +85,7 @@ export const busFaultTests = [
   }],
   ['a wrong name is shown, and what is wrong in a frame', async ({ open }) => {
     const page = await shown(open);
+    /** @type {Array<[string, string, RegExp]>} */
     const rows = [
       ['version = 1\nbits = 1\nspeed = 1\n[[port]]', 'key', /The name is “speed”\./],
       ['version = 2\nbits = 1\nat = [1]\n[[port]]', 'key', /The name is “at”\./],

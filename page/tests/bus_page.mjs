@@ -20,8 +20,9 @@ export async function shown(open, text, how) {
 
 /** The whole report, as it is downloaded. */
 export const report = (page) => page.run(async () => {
+  /** @type {Blob} */
   let blob;
-  URL.createObjectURL = (given) => { blob = given; return 'data:,'; };
+  URL.createObjectURL = (/** @type {Blob} */ given) => { blob = given; return 'data:,'; };
   HTMLAnchorElement.prototype.click = () => {};
   document.getElementById('bus-download').click();
   return blob.text();

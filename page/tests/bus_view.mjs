@@ -200,8 +200,9 @@ export const busViewTests = [
     await page.until("document.getElementById('bus-reported').textContent.startsWith('61 bit times')");
     await settled(page);
     const saved = await page.run(async () => {
+      /** @type {Blob} */
       let blob;
-      URL.createObjectURL = (given) => { blob = given; return 'data:,'; };
+      URL.createObjectURL = (/** @type {Blob} */ given) => { blob = given; return 'data:,'; };
       HTMLAnchorElement.prototype.click = () => {};
       document.getElementById('bus-save').click();
       return blob.text();

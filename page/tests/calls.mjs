@@ -186,7 +186,7 @@ const ROWS = [
     ['period = 303', '', 13, 1, 'must be at least one bit time, at most 4294967295'], ['frame = "S 100 D"', 'frame = "S 100 D 7"', 11, 1, 'must be kind, identifier and D or R of a frame, such as \'S 100 D\', without the DLC'],
     ['frame = "S 100 D"', 'frame = "S 300 D"', 16, 1, 'must differ in identifier or kind from every earlier message'], ['dlc = 7', 'dlc = 16', 12, 0, 'must be 0 to 15'],
     ['deadline = 360', 'deadline = -1', 15, 2, 'must be a time of 0 to 4294967295'], ['deadline = 360', 'jitter = 4294967296', 14, 2, 'must be a time of 0 to 4294967295'],
-  ].map(([right, wrong, field, place, lines]) => [...plan(NETWORK.replace(right, wrong)), 9, { late: 99, 'wrong 16': field, 'wrong 0': place, 'wrong 8': 0, lines }]),
+  ].map(([right, wrong, field, place, lines]) => [...plan(NETWORK.replace(String(right), String(wrong))), 9, { late: 99, 'wrong 16': field, 'wrong 0': place, 'wrong 8': 0, lines }]),
 
   [...worstCase(LONE, 'S 000 D'), 0, { lines: WORST }],
   ...['S 000 R', 'S 000 D 0', 'S 000', '', 'E 00000000 D', 'S 000 D                             '].map((name) => [...worstCase(LONE, name), 10, {}]),
@@ -194,11 +194,14 @@ const ROWS = [
   [...worstCase(LONE.replace('53', '0'), 'S 000 D'), 9, { 'wrong 16': 13, 'wrong 0': 0, 'wrong 8': 0 }],
 ];
 
+/** @typedef {{memory: WebAssembly.Memory, __heap_base: WebAssembly.Global} & Record<string, (...words: number[]) => number>} Exports */
+
 /** What the calls of rows answer and write, by the module as it stands in the page: the same names as the rows want. It runs there. */
 export async function play(letters, rows) {
   const packed = new Blob([Uint8Array.from(atob(letters.trim()), (letter) => letter.charCodeAt(0))]);
   const module = await new Response(packed.stream().pipeThrough(new DecompressionStream('deflate-raw'))).arrayBuffer();
-  const { instance: { exports } } = await WebAssembly.instantiate(module, {});
+  const { instance } = await WebAssembly.instantiate(module, {});
+  const exports = /** @type {Exports} */ (instance.exports);
   const memory = new Uint8Array(exports.memory.buffer);
   const numberAt = (at) => Number(new DataView(memory.buffer).getBigUint64(at, true));
   return rows.map(([call, given, , wanted]) => {

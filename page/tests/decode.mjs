@@ -32,8 +32,9 @@ const answered = (page) => page.run(() => {
 
 /** The text of the output, as it is downloaded. */
 const answer = (page) => page.run(async () => {
+  /** @type {Blob} */
   let blob;
-  URL.createObjectURL = (given) => { blob = given; return 'data:,'; };
+  URL.createObjectURL = (/** @type {Blob} */ given) => { blob = given; return 'data:,'; };
   HTMLAnchorElement.prototype.click = () => {};
   document.getElementById('answer-download').click();
   return blob.text();
@@ -45,7 +46,10 @@ const faultLevel = (page) => page.run(() => {
   return level ? level.getAttribute('aria-label') : '';
 });
 
-/** Each kind of fault: a trace made by hand, its line, where the picture shows it, and the words. */
+/**
+ * Each kind of fault: a trace made by hand, its line, where the picture shows it, and the words.
+ * @type {Array<[string, string, string, RegExp]>}
+ */
 const FAULTS = [
   // the levels end after 20 of the frame's
   [IDLE + WIRE.slice(0, 20), '11 fault C1 at 31', 'Place 31: the levels have ended; here the fault shows', /Frame cut short.*more were expected/],
@@ -131,8 +135,9 @@ export const decodeTests = [
     await page.until("document.getElementById('decode-reported').textContent.includes(' in 9,480,122 levels')");
     const lines = readFileSync(join(work, 'long.txt.answer'));
     const hash = await page.run(async () => {
+      /** @type {Blob} */
       let blob;
-      URL.createObjectURL = (given) => { blob = given; return 'data:,'; };
+      URL.createObjectURL = (/** @type {Blob} */ given) => { blob = given; return 'data:,'; };
       HTMLAnchorElement.prototype.click = () => {};
       document.getElementById('answer-download').click();
       const sum = await crypto.subtle.digest('SHA-256', await blob.arrayBuffer());

@@ -114,11 +114,15 @@ export const encodeTests = [
   ['a text fills the parts in', async ({ open }) => {
     const page = await open();
     await page.fill('frame-text', 'E 12345678 R 4');
-    assert.deepEqual(await page.run(() => ['part-extended', 'part-remote'].map((id) => document.getElementById(id).checked).concat(['part-identifier', 'part-dlc', 'part-data'].map((id) => document.getElementById(id).value))),
-      [true, true, '12345678', '4', '']);
+    const parts = await page.run(() => [
+      ...['part-extended', 'part-remote'].map((id) => document.getElementById(id).checked),
+      ...['part-identifier', 'part-dlc', 'part-data'].map((id) => document.getElementById(id).value),
+    ]);
+    assert.deepEqual(parts, [true, true, '12345678', '4', '']);
   }],
   ['wrong parts are refused in their field', async ({ open }) => {
     const page = await open();
+    /** @type {Array<[string, string, string, RegExp]>} */
     const rows = [
       ['part-identifier', '800', 'part-identifier', /too high/], ['part-identifier', '7g', 'part-identifier', /hexadecimal digits/], ['part-identifier', '', 'part-identifier', /hexadecimal digits/],
       ['part-identifier', 'ffffffff', 'part-identifier', /too high/], ['part-data', 'aa5', 'part-data', /two hexadecimal digits/], ['part-data', 'aa', 'part-data', /number of data bytes/],
@@ -167,8 +171,9 @@ export const encodeTests = [
     const page = await open();
     await page.fill('frame-text', 'S 000 D 0');
     const reported = await page.run(async () => {
+      /** @type {Blob} */
       let blob;
-      URL.createObjectURL = (given) => { blob = given; return 'data:,'; };
+      URL.createObjectURL = (/** @type {Blob} */ given) => { blob = given; return 'data:,'; };
       let name;
       HTMLAnchorElement.prototype.click = function click() { name = this.download; };
       document.getElementById('download-picture').click();

@@ -1,6 +1,7 @@
 /*
  * Runs each form of an instruction (instructions) on the same generated registers and memory, and writes the results:
- * as a program of AArch64, and as a module of WebAssembly, for which page/translate wrote the forms.
+ * as a program of AArch64; and as a module of WebAssembly, or a program for this machine, for which page/translate
+ * wrote the forms.
  */
 #include "forms.h" /* FORM_COUNT and forms, each a function of what it reads and what it writes */
 
@@ -11,6 +12,21 @@ enum { ROUNDS = 40, BYTES = 512 };
 #ifdef __wasm__
 __attribute__((import_module("host"), import_name("put"))) void put(const void *bytes, unsigned long count);
 __attribute__((export_name("play"))) void play(void);
+#elif __STDC_HOSTED__
+#include <stdio.h>
+
+void play(void);
+
+static void put(const void *bytes, unsigned long count)
+{
+  fwrite(bytes, 1, count, stdout);
+}
+
+int main(void)
+{
+  play();
+  return ferror(stdout) || fflush(stdout) != 0;
+}
 #else
 void play(void);
 

@@ -4,7 +4,8 @@ import { readFileSync, writeFileSync } from 'node:fs';
 const [module, output] = process.argv.slice(2);
 const parts = [];
 const { instance } = await WebAssembly.instantiate(readFileSync(module), {
-  host: { put: (at, count) => parts.push(Buffer.from(instance.exports.memory.buffer.slice(at, at + count))) },
+  host: { put: (at, count) => parts.push(Buffer.from(exported.memory.buffer.slice(at, at + count))) },
 });
-instance.exports.play();
+const exported = /** @type {{memory: WebAssembly.Memory, play: () => void}} */ (/** @type {unknown} */ (instance.exports));
+exported.play();
 writeFileSync(output, Buffer.concat(parts));

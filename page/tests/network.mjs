@@ -82,6 +82,7 @@ export const networkTests = [
   }],
   ['the time for which hits are tolerated is shown', async ({ open }) => {
     const page = await networkShown(open);
+    /** @type {Array<[string, RegExp]>} */
     const rows = [
       ['burst = 1\nspacing = 10000', /^Hits are tolerated for 149,999 bit times: in that time there are at most 15/], ['burst = 15', /^Hits are always tolerated/], ['', /^Hits are always tolerated/], ['burst = 16', /^Hits may not be tolerated/],
     ];

@@ -4,7 +4,11 @@ import { fillNetwork, many, networkFault, networkShown } from './network_page.mj
 
 const GOOD = 'version = 1\n[[message]]\nframe = "S 000 D"\nperiod = 1000\n';
 
-/** Each kind of wrong field, in the order of docs/PLANNING.md: a text, the field as canplan names it, its line and column, and the field of the form. */
+/**
+ * Each kind of wrong field, in the order of docs/PLANNING.md: a text, the field as canplan names it, its line and column, and
+ * the field of the form.
+ * @type {Array<[string, string, [number, number] | null, string[]]>}
+ */
 const WRONG = [
   ['version = ', 'toml', [1, 11], []],
   ['version = 1\nversion = 1\n', 'toml', [2, 1], []],
@@ -48,6 +52,7 @@ export const networkFaultTests = [
   }],
   ['a wrong name of a network is shown, and what is wrong in a frame', async ({ open }) => {
     const page = await networkShown(open);
+    /** @type {Array<[string, string, RegExp]>} */
     const rows = [
       [`speed = 1\n${GOOD}`, 'key', /The name is “speed”\./],
       [`${GOOD}[errors]\nburst = 1\nrate = 2\n`, 'errors.key', /The name is “rate”\./],

@@ -30,8 +30,9 @@ export async function pasteNetwork(page, text) {
 
 /** What a button would save as a file. */
 export const saved = (page, button) => page.run(async (id) => {
+  /** @type {Blob} */
   let blob;
-  URL.createObjectURL = (given) => { blob = given; return 'data:,'; };
+  URL.createObjectURL = (/** @type {Blob} */ given) => { blob = given; return 'data:,'; };
   HTMLAnchorElement.prototype.click = () => {};
   document.getElementById(id).click();
   return blob.text();

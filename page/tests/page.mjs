@@ -30,7 +30,10 @@ export const pageTests = [
   }],
   ['a message is shown if the browser refuses the module', async ({ open }) => {
     const page = await open({ before: 'WebAssembly.validate = () => false;' });
-    const [text, role, views] = await page.run(() => [refused.textContent, refused.getAttribute('role'), document.getElementById('views').hidden]);
+    const [text, role, views] = await page.run(() => {
+      const refused = document.getElementById('refused');
+      return [refused.textContent, refused.getAttribute('role'), document.getElementById('views').hidden];
+    });
     assert.match(text, /can’t run the proved code/);
     assert.deepEqual([role, views], ['alert', true]);
   }],
@@ -63,8 +66,11 @@ export const pageTests = [
     assert.equal(await named('examples'), 'S 000 D 0');
     await page.fill('part-identifier', 'x');
     assert.equal(await named('examples'), 'Pick one');
-    const views = [['bus', settled, fill, 'arbitration', 'bus_off', 'bus-bits'], ['network', networkSettled, fillNetwork, 'seventeen', 'sixty', 'network-rate']];
-    for (const [view, answered, put, first, other, field] of views) {
+    const views = [
+      { view: 'bus', answered: settled, put: fill, first: 'arbitration', other: 'bus_off', field: 'bus-bits' },
+      { view: 'network', answered: networkSettled, put: fillNetwork, first: 'seventeen', other: 'sixty', field: 'network-rate' },
+    ];
+    for (const { view, answered, put, first, other, field } of views) {
       const box = `${view}-examples`;
       await page.click(`tab-${view}`);
       await answered(page);

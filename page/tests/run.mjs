@@ -1,5 +1,5 @@
-// Tests the page: run.mjs CHROMIUM PAGE EXAMPLES WORK. WORK has the outputs of canbit, and native.c as a program. PAGE_TEST is a regular expression for the
-// names of the tests to run (default: all).
+// Tests the page: run.mjs CHROMIUM PAGE EXAMPLES WORK. WORK has the outputs of canbit, and native.c as a program. PAGE_TEST is
+// a regular expression for the names of the tests to run (default: all).
 import { pathToFileURL } from 'node:url';
 import { Browser } from './browser.mjs';
 import { accessTests } from './access.mjs';
@@ -20,6 +20,24 @@ import { pageTests } from './page.mjs';
 import { taskTests } from './tasks.mjs';
 import { worstCaseTests } from './worst_case.mjs';
 
+/**
+ * @typedef {object} Place what a test is given
+ * @property {(how?: object) => Promise<import('./browser.mjs').Page>} open opens the page
+ * @property {Browser} browser
+ * @property {string} address that of the page
+ * @property {string} file that of the page
+ * @property {string} examples a folder
+ * @property {string} work a folder
+ */
+
+/** @typedef {[string, (place: Place) => Promise<void>]} Test */
+
+const TESTS = /** @type {Test[]} */ ([
+  ...moduleTests, ...pageTests, ...taskTests, ...callTests, ...encodeTests, ...decodeTests, ...busTests, ...busViewTests,
+  ...busFaultTests, ...busSpeedTests, ...networkTests, ...networkFaultTests, ...boundPartsTests, ...leftTests,
+  ...worstCaseTests, ...linkTests, ...accessTests,
+]);
+
 const [program, file, examples, work] = process.argv.slice(2);
 const browser = new Browser(program);
 const place = { browser, address: pathToFileURL(file).href, file, examples, work };
@@ -29,7 +47,7 @@ const only = new RegExp(process.env.PAGE_TEST ?? '');
 let passed = 0;
 let failed = 0;
 
-for (const [name, test] of [...moduleTests, ...pageTests, ...taskTests, ...callTests, ...encodeTests, ...decodeTests, ...busTests, ...busViewTests, ...busFaultTests, ...busSpeedTests, ...networkTests, ...networkFaultTests, ...boundPartsTests, ...leftTests, ...worstCaseTests, ...linkTests, ...accessTests].filter(([name]) => only.test(name))) {
+for (const [name, test] of TESTS.filter(([title]) => only.test(title))) {
   const pages = [];
   const open = async (how) => {
     const page = await browser.open(place.address, how);

@@ -19,6 +19,8 @@ const TOLD = [
   [`${LONE}jitter = 5\n`, 'S 000 D 0', 'its latest frame, of port 0, is offered before bit time 1 and ends with bit time 50, 50 bit times after its offer. Its bound, 55, also counts its jitter.'],
   // a hit costs 13 bit times more than the frame keeps the bus
   [`${LONE}[errors]\nburst = 1\n`, 'S 000 D 0', 'its latest frame, of port 0, is offered before bit time 1 and ends with bit time 50, 50 bit times after its offer. Its bound, 116, also counts its jitter and hits.'],
+  // hits come faster than a frame can be repeated
+  [`${LONE}[errors]\nburst = 1\nspacing = 20\n`, 'S 000 D 0', 'its latest frame, of port 0, is offered before bit time 1 and ends with bit time 50, 50 bit times after its offer. With hits it has no bound.'],
 ];
 
 /** The words about the worst case that is shown. */

@@ -2,25 +2,50 @@
 
 from __future__ import annotations
 
+import re
 from collections.abc import Iterator
 from dataclasses import replace
 
 from translating import integers, memory, vectors
-from translating.crossing import refuse_crossing
+from translating.frames import Frame, without_probes
 from translating.image import Image
 from translating.instructions import Function, Instruction
 from translating.integers import Writer
 from translating.jumps import jumps_of
+from translating.liveness import (
+    BRANCH,
+    CALL,
+    GOTO,
+    RETURN,
+    SWITCH,
+    TRAP,
+    Liveness,
+    Statement,
+    bits_of,
+    statement,
+)
 from translating.operands import Address, Lanes, Part, Target, condition_of
 from translating.refusal import Refused
 
 # relocations of code (ELF for the Arm 64-bit Architecture, 5.7): a page, a place in one for a sum, and for a load or a
 # store of each width, a jump and a call
-PAGE, PLACE_FOR_SUM, JUMP, CALL = 275, 277, 282, 283
+PAGE, PLACE_FOR_SUM, JUMP, CALLED = 275, 277, 282, 283
 PLACES_FOR_ACCESS = (278, 284, 285, 286, 299)
 
-# symbols of other objects, which machine.h defines
-OUTSIDE = ("memcpy", "memmove", "memset", "memcmp", "bcmp", "rattle_alloc", "rattle_realloc", "rattle_dealloc")
+# an address in the function, which no statement that is kept may read
+PLACE_IN_CODE = "PLACE_IN_CODE"
+
+# symbols of other objects, which machine.h defines: how each is called, the registers that it reads, and its results
+OUTSIDE = {
+    "memcpy": ("memcpy(PLACE(x0), PLACE(x1), SIZE(x2));", 3, 0),
+    "memmove": ("memmove(PLACE(x0), PLACE(x1), SIZE(x2));", 3, 0),
+    "memset": ("memset(PLACE(x0), (int)x1, SIZE(x2));", 3, 0),
+    "memcmp": ("x0 = compared(PLACE(x0), PLACE(x1), SIZE(x2));", 3, 1),
+    "bcmp": ("x0 = compared(PLACE(x0), PLACE(x1), SIZE(x2));", 3, 1),
+    "rattle_alloc": ("{ struct x0_x1 r_ = allocated(x0, x1); x0 = r_.x0; x1 = r_.x1; }", 2, 2),
+    "rattle_realloc": ("{ struct x0_x1 r_ = reallocated(x0, x1, x2, x3); x0 = r_.x0; x1 = r_.x1; }", 4, 2),
+    "rattle_dealloc": ("rattle_dealloc(PLACE(x0));", 1, 0),
+}
 
 
 def writer_of(i: Instruction) -> Writer:
@@ -34,129 +59,145 @@ def writer_of(i: Instruction) -> Writer:
     return writers[i.name]
 
 
+def written(texts: list[str]) -> Iterator[Statement]:
+    """These statements, without those that write a variable to itself."""
+    return (statement(text) for text in texts if not re.fullmatch(r"(\w+) = \1;", text))
+
+
+def outside_call(name: str) -> Statement:
+    """The call of a function that is not in the object."""
+    if name not in OUTSIDE:
+        raise Refused(f"{name} is not known here")
+    text, read, results = OUTSIDE[name]
+    registers = [f"x{number}" for number in range(8)]
+    return Statement(text, CALL, reads=bits_of(*registers[:read]), writes=bits_of(*registers[:results]))
+
+
 class Body:
-    """The text between the braces of a function."""
+    """The statements of a function."""
 
     def __init__(self, image: Image, function: Function) -> None:
-        self.image, self.function = image, function
-        self.jumps = jumps_of(image.elf, function)
-        self.bases = {jump.base_at: jump.base for jump in self.jumps.values()}
-        refuse_crossing(function, self.jumps)
+        self.image, self.function = image, without_probes(function)
+        self.jumps = jumps_of(image.elf, self.function)
+        self.entries = {jump.entry_at: jump for jump in self.jumps.values()}
+        self.frame = Frame(self.function, self.jumps)
+        self.liveness = Liveness(list(self._statements()))
 
-    def lines(self) -> Iterator[str]:
-        """The statements."""
-        labels = self._labels()
+    def _statements(self) -> Iterator[tuple[int, list[Statement]]]:
+        """The statements of each instruction, with its place."""
         for i in self.function.instructions:
-            if i.at in labels:
-                yield f"L{i.at:x}:;"
+            if not self.frame.is_reached(i):
+                continue
             try:
-                yield from self._statements(i)
+                yield i.at, list(self._written(i))
             except (Refused, LookupError, ValueError) as why:
                 raise Refused(f"{i.at:#x}: {i.text}: {why}") from why
 
-    def _labels(self) -> set[int]:
-        found = {i.target for i in self.function.instructions if i.is_branch and i.relocation is None}
-        found.update(at for jump in self.jumps.values() for at in jump.targets)
-        if not all(at % 4 == 0 and 0 <= at < self.function.section.size for at in found):
-            raise Refused("a branch that leads out of its function")
-        return found
-
-    def _statements(self, i: Instruction) -> list[str]:
+    def _written(self, i: Instruction) -> Iterator[Statement]:
+        if jump := self.entries.get(i.at):
+            yield statement(f"chosen = {jump.number};")
         if i.relocation is not None:
-            return self._relocated(i)
+            yield from self._relocated(i)
+            return
         own = OWN.get(i.name)
         if own is not None:
-            return own(self, i)
-        condition = condition_of(i.name.removeprefix("b.")) if i.name.startswith("b.") else None
-        return self._goto_if(i, condition.read()) if condition else writer_of(i)(i)
+            yield from own(self, i)
+        elif i.name.startswith("b.") and (condition := condition_of(i.name[2:])):
+            yield self._branch_if(i, condition.read())
+        else:
+            for settled in self.frame.settled(i):
+                yield from written(writer_of(settled)(settled))
 
-    def _relocated(self, i: Instruction) -> list[str]:
+    def _relocated(self, i: Instruction) -> Iterator[Statement]:
         """An instruction that a linker would fill in."""
         assert i.relocation is not None
         kind = i.relocation.kind
-        if kind == PAGE and i.name == "adrp":
-            return i.whole(0).write(self.image.page(i.relocation))
-        if kind == PLACE_FOR_SUM and i.name == "add" and i.number(2) == 0:
-            return i.whole(0).write(f"{i.whole(1).read()} + {self.image.within_page(i.relocation)}")
-        if kind in PLACES_FOR_ACCESS:
-            return self._relocated_access(i)
-        if (kind, i.name) in ((JUMP, "b"), (CALL, "bl")):
-            return [*self._call(i), *(["RETURN;"] if i.name == "b" else [])]
-        raise Refused(f"the relocation {kind} is not known here")
+        if (kind, i.name) in ((JUMP, "b"), (CALLED, "bl")):
+            yield from self._call(i)
+        elif kind == PAGE and i.name == "adrp":
+            yield from written(i.whole(0).write(self.image.page(i.relocation)))
+        elif kind == PLACE_FOR_SUM and i.name == "add" and i.number(2) == 0:
+            text = f"{i.whole(1).read()} + {self.image.within_page(i.relocation)}"
+            yield from written(i.whole(0).write(text))
+        elif kind in PLACES_FOR_ACCESS:
+            yield from written(self._relocated_access(i))
+        else:
+            raise Refused(f"the relocation {kind} is not known here")
 
     def _relocated_access(self, i: Instruction) -> list[str]:
         """A load or a store; a linker would fill in the offset in the page in its address."""
         address, relocation = i.operands[-1], i.relocation
         if relocation is None or not isinstance(address, Address) or self.image.function(relocation) is not None:
             raise Refused("its address is not known here")
-        if address.offset != 0 or address.index is not None or address.is_kept:
+        if address.offset != 0 or address.index is not None or address.is_kept or address.base.name == "sp":
             raise Refused("its address is not known here")
         filled = replace(address, offset=self.image.offset_within_page(relocation))
         return memory.write_one(replace(i, operands=(*i.operands[:-1], filled), relocation=None))
 
-    def _call(self, i: Instruction) -> list[str]:
+    def _call(self, i: Instruction) -> Iterator[Statement]:
+        """A call of another function; if it is a jump, as the last act of this one."""
         assert i.relocation is not None
         symbol = i.relocation.symbol
-        if not symbol.is_outside:
-            return [f"CALL({self.image.function(i.relocation)});"]
-        if symbol.name not in OUTSIDE:
-            raise Refused(f"{symbol.name} is not known here")
-        return [f"CALL_{symbol.name}();"]
+        name = None if symbol.is_outside else self.image.function(i.relocation)
+        if name is None:
+            yield outside_call(symbol.name)
+        else:
+            yield Statement("", CALL, called=name, depth=self.frame.depth(i))
+        if i.name == "b":
+            if self.frame.depth(i) != 0:
+                raise Refused("a jump to a function, with a frame")
+            yield Statement("", RETURN)
 
-    def _call_itself(self, i: Instruction) -> list[str]:
+    def _call_itself(self, i: Instruction) -> Iterator[Statement]:
         target = i.operands[0]
         if not isinstance(target, Target) or target.at != 0:
             raise Refused("a call into a function")
-        return [f"CALL({self.function.name});"]
+        yield Statement("", CALL, called=self.image.name_of(self.function.section), depth=self.frame.depth(i))
 
-    def _call_by_register(self, i: Instruction) -> list[str]:
-        return [f"CALL((function *)(uintptr_t){i.whole(0).read()});"]
+    def _return(self, i: Instruction) -> Iterator[Statement]:
+        if i.operands or self.frame.depth(i) != 0:
+            raise Refused("a return that is not known here")
+        yield Statement("", RETURN)
 
-    def _return(self, i: Instruction) -> list[str]:
-        if i.operands:
-            raise Refused("a return by another register")
-        return ["RETURN;"]
+    def _goto(self, i: Instruction) -> Iterator[Statement]:
+        yield statement(f"goto L{i.target:x};", GOTO, (i.target,))
 
-    def _goto(self, i: Instruction) -> list[str]:
-        return [f"goto L{i.target:x};"]
+    def _branch_if(self, i: Instruction, condition: str) -> Statement:
+        return statement(f"if ({condition}) goto L{i.target:x};", BRANCH, (i.target,))
 
-    def _goto_if(self, i: Instruction, condition: str) -> list[str]:
-        return [f"if ({condition}) goto L{i.target:x};"]
+    def _branch_if_zero(self, i: Instruction) -> Iterator[Statement]:
+        yield self._branch_if(i, f"{i.whole(0).read()} {'==' if i.name == 'cbz' else '!='} 0")
 
-    def _goto_if_zero(self, i: Instruction) -> list[str]:
-        return self._goto_if(i, f"{i.whole(0).read()} {'==' if i.name == 'cbz' else '!='} 0")
+    def _branch_if_bit(self, i: Instruction) -> Iterator[Statement]:
+        bit = f"({i.whole(0).read()} >> {i.number(1)} & 1)"
+        yield self._branch_if(i, f"{bit} {'==' if i.name == 'tbz' else '!='} 0")
 
-    def _goto_if_bit(self, i: Instruction) -> list[str]:
-        return self._goto_if(i, f"({i.whole(0).read()} >> {i.number(1)} & 1) {'==' if i.name == 'tbz' else '!='} 0")
+    def _place(self, i: Instruction) -> Iterator[Statement]:
+        """The place to which a jump table adds: no jump uses it in C, and nothing else may."""
+        yield from written(i.whole(0).write(PLACE_IN_CODE))
 
-    def _place(self, i: Instruction) -> list[str]:
-        """The place to which a jump table adds: a number of this function, which nothing else may use."""
-        if i.at not in self.bases:
-            raise Refused("a place that no jump table adds to")
-        return i.whole(0).write(f"{self.bases[i.at]}")
+    def _jump(self, i: Instruction) -> Iterator[Statement]:
+        targets = self.jumps[i.at].targets
+        cases = " ".join(f"case {number}: goto L{at:x};" for number, at in enumerate(targets))
+        yield statement(f"switch (chosen) {{ {cases} default: END; }}", SWITCH, targets)
 
-    def _jump(self, i: Instruction) -> list[str]:
-        cases = " ".join(f"case {at}: goto L{at:x};" for at in self.jumps[i.at].targets)
-        return [f"switch ({i.whole(0).read()}) {{ {cases} default: __builtin_trap(); }}"]
+    def _nothing(self, _: Instruction) -> Iterator[Statement]:
+        yield from ()
 
-    def _nothing(self, _: Instruction) -> list[str]:
-        return []
-
-    def _end(self, _: Instruction) -> list[str]:
-        return ["__builtin_trap();"]
+    def _end(self, _: Instruction) -> Iterator[Statement]:
+        yield Statement("END;", TRAP)
 
 
 OWN = {
     "ret": Body._return,
     "b": Body._goto,
-    "cbz": Body._goto_if_zero,
-    "cbnz": Body._goto_if_zero,
-    "tbz": Body._goto_if_bit,
-    "tbnz": Body._goto_if_bit,
+    "cbz": Body._branch_if_zero,
+    "cbnz": Body._branch_if_zero,
+    "tbz": Body._branch_if_bit,
+    "tbnz": Body._branch_if_bit,
     "adr": Body._place,
     "br": Body._jump,
     "bl": Body._call_itself,
-    "blr": Body._call_by_register,
     "brk": Body._end,
     "udf": Body._end,
     "nop": Body._nothing,

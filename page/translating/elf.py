@@ -55,6 +55,11 @@ class Symbol:
     is_global: bool
 
     @property
+    def is_export(self) -> bool:
+        """Whether others may refer to it."""
+        return self.is_global and not self.is_outside
+
+    @property
     def is_outside(self) -> bool:
         """Whether it is in another object."""
         return self.section == UNDEFINED
@@ -101,6 +106,19 @@ class ElfObject:
         if symbol.is_outside or symbol.section >= FIRST_RESERVED:
             raise Refused(f"the symbol {symbol.name} is in no section")
         return self.sections[symbol.section]
+
+    def reached(self, names: set[str]) -> set[int]:
+        """The numbers of the sections that these global symbols need: their own, and what relocations there lead to."""
+        work = [symbol.section for symbol in self.symbols if symbol.is_export and symbol.name in names]
+        found: set[int] = set()
+        while work:
+            number = work.pop()
+            if number in found:
+                continue
+            found.add(number)
+            symbols = [relocation.symbol for relocation in self.relocations.get(number, {}).values()]
+            work += [symbol.section for symbol in symbols if not symbol.is_outside]
+        return found
 
     def _text(self, offset: int) -> str:
         return self.bytes[offset : self.bytes.index(b"\0", offset)].decode()

@@ -1,4 +1,7 @@
-"""The data of an object as one array, and its symbols: places in the array, or functions of C."""
+"""The data of an object as one constant of C, and its symbols: places in it, or functions of C.
+
+Addresses in the data are initialised as pointers, so the linker or the loader fills them in.
+"""
 
 from __future__ import annotations
 
@@ -10,28 +13,36 @@ from translating.refusal import Refused
 # relocations of data (ELF for the Arm 64-bit Architecture, 5.7.5): an address, and the distance to one from the place
 # itself
 ABS64, PREL32 = 257, 261
-# The array begins at a multiple of this in memory, so that its offsets determine the offset in a page of the machine.
 PAGE_BYTES = 4096
+ADDRESS_BYTES = 8
+# of the flags of a section: it is written; the loader alone writes .data.rel.ro, which has addresses
+WRITTEN, FOR_LOADER = 1, ".data.rel.ro"
 
 
 class Image:
-    """The sections of data, one after another, each with its alignment; those of zeros are last."""
+    """The sections of data, one after another, each with its alignment, as if the first began a page.
 
-    def __init__(self, elf: ElfObject) -> None:
-        self.elf = elf
-        sections = [section for section in elf.sections if section.is_data]
-        for section in elf.sections:
+    The offset of a place in its page is that in the data, wherever C has the data, as far as sections are aligned.
+    """
+
+    def __init__(self, elf: ElfObject, prefix: str, reached: set[int]) -> None:
+        """The data in these sections of an object; all names in C begin with the prefix."""
+        self.elf, self.prefix, self.name = elf, prefix, f"{prefix}data"
+        sections = [section for section in elf.sections if section.is_data and section.number in reached]
+        for section in (it for it in elf.sections if it.number in reached):
             if section.flags & IN_MEMORY and not section.is_code and not section.is_data:
                 raise Refused(f"what {section.name} is for is not known here")
+        self.alignment = max((section.alignment for section in sections), default=ADDRESS_BYTES)
         self.offsets: dict[int, int] = {}
         self.bytes = bytearray()
         for section in sorted(sections, key=lambda it: it.kind != BYTES):
-            if section.alignment > PAGE_BYTES:
-                raise Refused(f"{section.name} asks for an alignment of {section.alignment}")
+            if section.flags & WRITTEN and not section.name.startswith(FOR_LOADER):
+                raise Refused(f"{section.name} is written")
             self.bytes += bytes(-len(self.bytes) % section.alignment)
             self.offsets[section.number] = len(self.bytes)
             self.bytes += elf.contents(section)
-        self.addresses: list[tuple[int, str]] = []
+        self.bytes += bytes(-len(self.bytes) % max(self.alignment, ADDRESS_BYTES))
+        self.addresses: dict[int, int] = {}
         for section in sections:
             self._relocate(section)
 
@@ -42,7 +53,11 @@ class Image:
             return None
         if relocation.place != 0:
             raise Refused(f"a place within the function {section.name}")
-        return f"f{section.number}"
+        return self.name_of(section)
+
+    def name_of(self, section: Section) -> str:
+        """The name in C of the function in a section: the compiler gives each function a section of its own."""
+        return f"{self.prefix}{section.number}"
 
     def offset(self, relocation: Relocation) -> int:
         """The place in the array to which a relocation leads."""
@@ -53,33 +68,46 @@ class Image:
 
     def page(self, relocation: Relocation) -> str:
         """The beginning of the page of 4096 bytes that has a place, as `adrp` computes it."""
-        if name := self.function(relocation):
-            return f"ADDRESS({name}) & ~(u64){PAGE_BYTES - 1}"
-        return f"ADDRESS(data) + {self.offset(relocation) & -PAGE_BYTES}"
+        return f"ADDRESS(&{self.name}) + {self.offset(relocation) & -PAGE_BYTES}"
 
     def within_page(self, relocation: Relocation) -> str:
         """The offset of a place in its page."""
-        if name := self.function(relocation):
-            return f"(ADDRESS({name}) & {PAGE_BYTES - 1})"
         return str(self.offset_within_page(relocation))
 
     def offset_within_page(self, relocation: Relocation) -> int:
-        """The place in the array to which a relocation of data leads."""
+        """The same, as a number."""
         return self.offset(relocation) & PAGE_BYTES - 1
 
     def text(self) -> Iterator[str]:
-        """The array and its addresses, in C. Zeros at its end are not written."""
-        written = bytes(self.bytes).rstrip(b"\0")
-        yield f"static _Alignas({PAGE_BYTES}) u8 data[{max(len(self.bytes), 1)}] = {{"
-        for at in range(0, len(written), 32):
-            yield f"  {', '.join(map(str, written[at : at + 32]))},"
+        """The constant in C: bytes, and addresses of places in it."""
+        parts = list(self._parts())
+        size = len(self.bytes)
+        yield f"struct {self.name} {{"
+        for at, end in parts:
+            yield f"  struct address a{at};" if at in self.addresses else f"  u8 b{at}[{end - at}];"
         yield "};"
-        yield "static const struct address addresses[] = {"
-        for where, to in self.addresses:
-            yield f"  {{ {where}, (uintptr_t)({to}) }},"
-        yield "  { 0, 0 }"
+        yield f"static const _Alignas({self.alignment}) struct {self.name} {self.name} = {{"
+        for at, end in parts:
+            if at in self.addresses:
+                yield f"  INITIAL_ADDRESS((const u8 *)&{self.name} + {self.addresses[at]}),"
+                continue
+            yield "  {"
+            for row in range(at, end, 32):
+                yield f"    {', '.join(map(str, self.bytes[row : min(row + 32, end)]))},"
+            yield "  },"
         yield "};"
-        yield f"enum {{ ADDRESS_COUNT = {len(self.addresses)} }};"
+        yield f"CONSTANT_HAS({self.name}, {size})"
+
+    def _parts(self) -> Iterator[tuple[int, int]]:
+        """Where the addresses are, and the bytes between them; each with its end."""
+        at = 0
+        for address in sorted(self.addresses):
+            if at < address:
+                yield at, address
+            yield address, address + ADDRESS_BYTES
+            at = address + ADDRESS_BYTES
+        if at < len(self.bytes):
+            yield at, len(self.bytes)
 
     def _data(self, relocation: Relocation) -> Section:
         """The section of data to which a relocation leads."""
@@ -98,8 +126,8 @@ class Image:
     def _relocate(self, section: Section) -> None:
         for place, relocation in self.elf.relocations_of(section).items():
             at = self.offsets[section.number] + place
-            if relocation.kind == ABS64:
-                self.addresses.append((at, self.function(relocation) or f"data + {self.offset(relocation)}"))
+            if relocation.kind == ABS64 and self.function(relocation) is None and at % ADDRESS_BYTES == 0:
+                self.addresses[at] = self.offset(relocation)
             elif relocation.kind == PREL32 and self.function(relocation) is None:
                 way = self._way(section, place, relocation)
                 self.bytes[at : at + 4] = (way & 0xFFFFFFFF).to_bytes(4, "little")

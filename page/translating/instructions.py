@@ -98,11 +98,6 @@ class Function:
     section: Section
     instructions: tuple[Instruction, ...]
 
-    @property
-    def name(self) -> str:
-        """Its name in C."""
-        return f"f{self.section.number}"
-
 
 def instruction_of(at: int, name: str, words: str, relocation: Relocation | None) -> Instruction:
     """The instruction for these words."""
@@ -124,8 +119,8 @@ def without_names(words: str) -> str:
     return re.sub(r" <.*>$", "", words.split("//")[0].strip())
 
 
-def functions_of(path: str, elf: ElfObject) -> list[Function]:
-    """The functions of the object in this file: all instructions of each."""
+def functions_of(path: str, elf: ElfObject, reached: set[int]) -> list[Function]:
+    """The functions in these sections of the object in this file: all instructions of each."""
     sections = iter([section for section in elf.sections if section.is_code and section.size > 0])
     found: list[tuple[Section, list[Instruction]]] = []
     for line in disassembled(path).splitlines():
@@ -136,11 +131,14 @@ def functions_of(path: str, elf: ElfObject) -> list[Function]:
             found.append((section, []))
         elif code := re.fullmatch(r" *([0-9a-f]+): +\t(\S+)(?:\t(.*))?", line):
             section, instructions = found[-1]
+            if section.number not in reached:
+                continue
             at, words = int(code[1], 16), without_names(code[3] or "")
             if at != 4 * len(instructions):
                 raise Refused(f"llvm-objdump leaves out what stands before {at:#x} of {section.name}")
             instructions.append(instruction_of(at, code[2], words, elf.relocations_of(section).get(at)))
-    for section, instructions in found:
+    kept = [(section, instructions) for section, instructions in found if section.number in reached]
+    for section, instructions in kept:
         if 4 * len(instructions) != section.size:
             raise Refused(f"llvm-objdump leaves out the end of {section.name}")
-    return [Function(section, tuple(instructions)) for section, instructions in found]
+    return [Function(section, tuple(instructions)) for section, instructions in kept]

@@ -1,5 +1,8 @@
 """Integer instructions, and those of the flags, as statements of C.
 
+Of the flags, the seven facts are kept that conditions ask for: each is computed from the operands, where the flags are
+set, and left out if nothing reads it (liveness.py).
+
 Values have 64 bits. A value that is written to a w register is cut to 32. So sums, differences, products, left shifts
 and bitwise operations may be computed in 64 bits. What depends on the upper end of a value (flags, right shifts,
 quotients, leading zeros) is computed in the type of the register.
@@ -17,6 +20,10 @@ Writer = Callable[[Instruction], list[str]]
 
 SUMS = {"add": "+", "sub": "-"}
 BITS = {"and": "&", "orr": "|", "eor": "^", "bic": "& ~", "orn": "| ~", "eon": "^ ~"}
+
+
+# the value of the zero register
+ZERO = "(u64)0"
 
 
 def shifted(value: Whole | Immediate, shift: Shift | None) -> str:
@@ -48,39 +55,102 @@ def last(i: Instruction, place: int) -> str:
     return shifted(operand, i.shift(place + 1))
 
 
-def sum_flags(kind: str, of: Whole, first: str, second: str) -> str:
+def facts_of_difference(bits: int, a: str, b: str) -> dict[str, str]:
+    """What a comparison leaves for the conditions: a difference sets the carry if there is no borrow."""
+    first, second = f"(u{bits})({a})", f"(u{bits})({b})"
+    result = f"(u{bits})({first} - {second})"
+    signed_first, signed_second = f"(i{bits})({a})", f"(i{bits})({b})"
+    return {
+        "is_eq": f"{first} == {second}",
+        "is_hs": f"{first} >= {second}",
+        "is_hi": f"{first} > {second}",
+        "is_mi": f"(i{bits}){result} < 0",
+        "is_vs": f"(i{bits})(({first} ^ {second}) & ({first} ^ {result})) < 0",
+        "is_ge": f"{signed_first} >= {signed_second}",
+        "is_gt": f"{signed_first} > {signed_second}",
+    }
+
+
+def facts_of_sum(bits: int, a: str, b: str, carry: str = "") -> dict[str, str]:
+    """What a sum leaves for the conditions (AddWithCarry of the manual); `carry` is a variable that is 0 or 1."""
+    first, second = f"(u{bits})({a})", f"(u{bits})({b})"
+    result = f"(u{bits})({first} + {second}{f' + (u{bits}){carry}' if carry else ''})"
+    is_below, is_zero = f"(i{bits}){result} < 0", f"{result} == 0"
+    carries = f"{result} < {first}"
+    if carry:  # with 0 the sum carries only if it is 0 itself
+        carries = f"({carry} ? {result} <= {first} : {carries})" if a != ZERO else f"({carry} && {is_zero})"
+    overflows = f"(i{bits})(({first} ^ {result}) & ({second} ^ {result})) < 0"
+    return {
+        "is_eq": is_zero,
+        "is_hs": carries,
+        "is_hi": f"{carries} && !({is_zero})",
+        "is_mi": is_below,
+        "is_vs": overflows,
+        "is_ge": f"({is_below}) == ({overflows})",
+        "is_gt": f"!({is_zero}) && ({is_below}) == ({overflows})",
+    }
+
+
+def facts_of_bits(bits: int, value: str) -> dict[str, str]:
+    """What a bitwise operation leaves for the conditions: it clears the carry and the overflow."""
+    unsigned, signed = f"(u{bits})({value})", f"(i{bits})({value})"
+    facts = {"is_eq": f"{unsigned} == 0", "is_mi": f"{signed} < 0", "is_ge": f"{signed} >= 0", "is_gt": f"{signed} > 0"}
+    return {**facts, **dict.fromkeys(("is_hs", "is_hi", "is_vs"), "0")}
+
+
+def facts_of_number(nzcv: int) -> dict[str, str]:
+    """What these four flags mean for the conditions."""
+    n, z, c, v = (bool(nzcv >> place & 1) for place in (3, 2, 1, 0))
+    facts = {"is_eq": z, "is_hs": c, "is_hi": c and not z, "is_mi": n, "is_vs": v}
+    facts.update({"is_ge": n == v, "is_gt": not z and n == v})
+    return {name: str(int(value)) for name, value in facts.items()}
+
+
+def write_facts(facts: dict[str, str]) -> list[str]:
+    """A statement for each fact."""
+    return [f"{name} = {value};" for name, value in facts.items()]
+
+
+def sum_facts(name: str, of: Whole, first: str, second: str) -> dict[str, str]:
+    """What a sum or a difference leaves for the conditions, by the name of the instruction."""
+    if name in ("adds", "cmn", "ccmn"):
+        return facts_of_sum(of.bits, first, second)
+    return facts_of_difference(of.bits, first, second)
+
+
+def sum_flags(name: str, of: Whole, first: str, second: str) -> list[str]:
     """Sets the flags of a sum or a difference."""
-    return f"FLAGS_OF_{'SUM' if kind in ('adds', 'cmn', 'ccmn') else 'DIFFERENCE'}({of.bits}, {first}, {second});"
+    return write_facts(sum_facts(name, of, first, second))
 
 
 def write_sum(i: Instruction) -> list[str]:
     """`add` and `sub`, with or without flags."""
     first, second = i.whole(1).read(), last(i, 2)
-    flags = [sum_flags(i.name, i.whole(0), first, second)] if i.name.endswith("s") else []
+    flags = sum_flags(i.name, i.whole(0), first, second) if i.name.endswith("s") else []
     return [*flags, *i.whole(0).write(f"{first} {SUMS[i.name[:3]]} {second}")]
 
 
 def write_comparison(i: Instruction) -> list[str]:
     """The flags of a difference or a sum whose value is not used."""
-    return [sum_flags(i.name, i.whole(0), i.whole(0).read(), last(i, 1))]
+    return sum_flags(i.name, i.whole(0), i.whole(0).read(), last(i, 1))
 
 
 def write_negation(i: Instruction) -> list[str]:
     """The difference from 0, with flags or without."""
-    flags = [sum_flags("subs", i.whole(0), "0", last(i, 1))] if i.name == "negs" else []
-    return [*flags, *i.whole(0).write(f"-({last(i, 1)})")]
+    flags = sum_flags("subs", i.whole(0), "0", last(i, 1)) if i.name == "negs" else []
+    return [*flags, *i.whole(0).write(f"0 - ({last(i, 1)})")]
 
 
 def write_bits(i: Instruction) -> list[str]:
     """Bitwise operations, with flags or without."""
     value = f"{i.whole(1).read()} {BITS[i.name if i.name in BITS else i.name[:3]]}({last(i, 2)})"
-    flags = [f"FLAGS_OF_BITS({i.whole(0).bits}, {value});"] if i.name in ("ands", "bics") else []
+    flags = write_facts(facts_of_bits(i.whole(0).bits, value)) if i.name in ("ands", "bics") else []
     return [*flags, *i.whole(0).write(value)]
 
 
 def write_test(i: Instruction) -> list[str]:
     """The flags of the bits that two operands share."""
-    return [f"FLAGS_OF_BITS({i.whole(0).bits}, {i.whole(0).read()} & ({last(i, 1)}));"]
+    return write_facts(facts_of_bits(i.whole(0).bits, f"{i.whole(0).read()} & ({last(i, 1)})"))
 
 
 def write_move(i: Instruction) -> list[str]:
@@ -100,7 +170,7 @@ def write_product(i: Instruction) -> list[str]:
     """A product, alone, negated, or added to a third register or subtracted from it."""
     product = f"{i.whole(1).read()} * {i.whole(2).read()}"
     if i.name in ("mul", "mneg"):
-        return i.whole(0).write(product if i.name == "mul" else f"-({product})")
+        return i.whole(0).write(product if i.name == "mul" else f"0 - {product}")
     return i.whole(0).write(f"{i.whole(3).read()} {'+' if i.name == 'madd' else '-'} {product}")
 
 
@@ -172,34 +242,34 @@ def write_count(i: Instruction) -> list[str]:
     to, value = i.whole(0), i.whole(1).read()
     if i.name == "clz":
         return to.write(f"leading_zeros_{to.bits}({value})")
-    return to.write(f"__builtin_{'bitreverse' if i.name == 'rbit' else 'bswap'}{to.bits}(({to.unsigned}){value})")
+    return to.write(f"{'reversed_bits' if i.name == 'rbit' else 'reversed_bytes'}_{to.bits}({value})")
 
 
 def write_carried_sum(i: Instruction) -> list[str]:
     """A sum or a difference with the carry: a difference adds the complement (C6.2, `sbc`)."""
     to, is_sum = i.whole(0), i.name.startswith("adc")
-    first = "0" if i.name.startswith("ngc") else i.whole(1).read()
-    second = i.whole(len(i.operands) - 1).read()
-    flags = [f"FLAGS_OF_CARRIED_SUM({to.bits});"] if i.name.endswith("s") else []
-    return [f"{{ CARRIED_SUM({to.bits}, {first}, {'' if is_sum else '~'}{second});", *flags, *to.write("r_"), "}"]
+    first = ZERO if i.name.startswith("ngc") else i.whole(1).read()
+    second = f"{'' if is_sum else '~'}({i.whole(len(i.operands) - 1).read()})"
+    flags = write_facts(facts_of_sum(to.bits, first, second, "carry")) if i.name.endswith("s") else []
+    return ["carry = is_hs;", *flags, *to.write(f"{first} + {second} + (u64)carry")]
 
 
 def write_choice(i: Instruction) -> list[str]:
     """One of two registers, depending on the flags; the second as it is, plus one, complemented or negated."""
-    changes = {"csel": "{}", "csinc": "{} + 1", "csinv": "~{}", "csneg": "-{}"}
+    changes = {"csel": "{}", "csinc": "{} + 1", "csinv": "~{}", "csneg": "0 - {}"}
     other = changes[i.name].format(i.whole(2).read())
     return i.whole(0).write(f"{i.condition(3)} ? {i.whole(1).read()} : {other}")
 
 
 def write_flag(i: Instruction) -> list[str]:
     """1, or all ones, if the flags satisfy a condition, and otherwise 0."""
-    return i.whole(0).write(f"{'-' if i.name == 'csetm' else ''}(u64)({i.condition(1)})")
+    return i.whole(0).write(f"{'0 - ' if i.name == 'csetm' else ''}(u64)({i.condition(1)})")
 
 
 def write_change(i: Instruction) -> list[str]:
     """A register; plus one, complemented or negated if the flags satisfy a condition."""
     value = i.whole(1).read()
-    changed = {"cinc": f"{value} + 1", "cinv": f"~{value}", "cneg": f"-{value}"}[i.name]
+    changed = {"cinc": f"{value} + 1", "cinv": f"~{value}", "cneg": f"0 - {value}"}[i.name]
     return i.whole(0).write(f"{i.condition(2)} ? {changed} : {value}")
 
 
@@ -208,8 +278,9 @@ def write_further_comparison(i: Instruction) -> list[str]:
     second = i.operands[1]
     if not isinstance(second, (Whole, Immediate)):
         raise Refused("its second operand is not known here")
-    flags = sum_flags(i.name, i.whole(0), i.whole(0).read(), second.read())
-    return [f"if ({i.condition(3)}) {flags} else FLAGS_ARE({i.number(2)});"]
+    compared, given = sum_facts(i.name, i.whole(0), i.whole(0).read(), second.read()), facts_of_number(i.number(2))
+    facts = {name: f"was ? {value} : {given[name]}" for name, value in compared.items()}
+    return [f"was = {i.condition(3)};", *write_facts(facts)]
 
 
 WRITERS: dict[str, Writer] = {

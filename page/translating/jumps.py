@@ -8,30 +8,32 @@ bytes:
     add   x11, x11, x12, lsl #2
     br    x11
 
-In C the sum is computed as in the machine, and the jump is a `switch` over its possible values. The table and its end
-are only searched for to find these values: if one were missing, the program would end at the jump.
+In C the jump is a `switch` over the number of the entry. The table's end is only searched for to find all entries: if
+one were missing, the program would end at the jump.
 """
 
 from __future__ import annotations
 
-from dataclasses import dataclass
+from dataclasses import dataclass, replace
 
 from translating.elf import ElfObject, Relocation, Section
 from translating.instructions import Function, Instruction
-from translating.operands import Address, Immediate, Shift, Target, Whole
+from translating.integers import shifted
+from translating.operands import EXTENSIONS, Address, Immediate, Shift, Target, Whole
 from translating.refusal import Refused
 
 WRITE_NOTHING = ("st", "cmp", "cmn", "ccm", "tst", "cb", "tb", "br", "blr", "prf")
+ENDS_WAY = ("b", "bl", "br", "blr", "ret", "brk", "udf")
 # the number of bytes of an entry, by the instruction that loads it
 ENTRY_BYTES = {"ldrb": 1, "ldrh": 2}
 
 
 @dataclass(frozen=True)
 class Jump:
-    """A jump table: the place to which entries are added, the `adr` that has it, and all targets."""
+    """A jump table: where an entry is loaded, by which number, and the target for each number."""
 
-    base_at: int
-    base: int
+    entry_at: int
+    number: str  # in C
     targets: tuple[int, ...]
 
 
@@ -90,11 +92,33 @@ def jump_at(elf: ElfObject, function: Function, place: int) -> Jump:
     table = at[last_write(function, entry, address.base)].relocation
     if table is None:
         raise Refused("a jump whose table is not found")
-    begin = base_of(at[base])
-    found = {begin + 4 * it for it in entries(elf, table, ENTRY_BYTES[at[entry].name])}
+    width, begin = ENTRY_BYTES[at[entry].name], base_of(at[base])
+    found = tuple(begin + 4 * it for it in entries(elf, table, width))
     if not all(it % 4 == 0 and 0 <= it < function.section.size for it in found):
         raise Refused("a jump table that leads out of its function")
-    return Jump(at[base].at, begin, tuple(sorted(found)))
+    return Jump(at[entry].at, number_of(address, width), found)
+
+
+def number_of(address: Address, width: int) -> str:
+    """The number of the entry that a load from a table takes, in C."""
+    assert address.index is not None
+    shift = address.shift or Shift("lsl", 0)
+    if 1 << shift.by != width or shift.how not in ("lsl", *EXTENSIONS):
+        raise Refused("a jump whose table is not found")
+    return shifted(address.index, replace(shift, by=0))
+
+
+def refuse_other_ways(function: Function, jumps: dict[int, Jump]) -> None:
+    """Refuses a jump that may be reached otherwise than from the load of its entry, instruction by instruction."""
+    targets = {i.target for i in function.instructions if i.is_branch and i.relocation is None}
+    targets.update(at for jump in jumps.values() for at in jump.targets)
+    entries_at = {jump.entry_at for jump in jumps.values()}
+    for at, jump in jumps.items():
+        way = function.instructions[jump.entry_at // 4 + 1 : at // 4 + 1]
+        if any(i.is_branch or i.name in ENDS_WAY or i.at in entries_at for i in way[:-1]):
+            raise Refused(f"{at:#x}: a jump that does not follow the load of its entry")
+        if any(i.at in targets for i in way):
+            raise Refused(f"{at:#x}: a jump that does not follow the load of its entry")
 
 
 def jumps_of(elf: ElfObject, function: Function) -> dict[int, Jump]:
@@ -106,4 +130,5 @@ def jumps_of(elf: ElfObject, function: Function) -> dict[int, Jump]:
                 found[i.at] = jump_at(elf, function, place)
             except Refused as why:
                 raise Refused(f"{i.at:#x}: {i.text}: {why}") from why
+    refuse_other_ways(function, found)
     return found

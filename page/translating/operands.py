@@ -23,22 +23,22 @@ LANE_TYPES = {"b": "u8", "h": "u16", "s": "u32", "d": "u64"}
 PART_TYPES = {**LANE_TYPES, "q": "vec"}
 TYPE_BYTES = {"u8": 1, "u16": 2, "u32": 4, "u64": 8, "vec": 16}
 
-# Each condition in terms of the flags (the manual's table of conditions, C1.2.4).
+# Each condition (the manual's table, C1.2.4) as one of seven facts that instructions with flags leave, or its opposite.
 CONDITIONS = {
-    "eq": "flag_z",
-    "ne": "!flag_z",
-    "hs": "flag_c",
-    "lo": "!flag_c",
-    "mi": "flag_n",
-    "pl": "!flag_n",
-    "vs": "flag_v",
-    "vc": "!flag_v",
-    "hi": "flag_c && !flag_z",
-    "ls": "!flag_c || flag_z",
-    "ge": "flag_n == flag_v",
-    "lt": "flag_n != flag_v",
-    "gt": "!flag_z && flag_n == flag_v",
-    "le": "flag_z || flag_n != flag_v",
+    "eq": "is_eq",
+    "ne": "!is_eq",
+    "hs": "is_hs",
+    "lo": "!is_hs",
+    "mi": "is_mi",
+    "pl": "!is_mi",
+    "vs": "is_vs",
+    "vc": "!is_vs",
+    "hi": "is_hi",
+    "ls": "!is_hi",
+    "ge": "is_ge",
+    "lt": "!is_ge",
+    "gt": "is_gt",
+    "le": "!is_gt",
 }
 SYNONYMS = {"cs": "hs", "cc": "lo"}
 
@@ -82,8 +82,9 @@ class Whole:
         """Writes a value; a w register takes 32 bits of it, and clears those above them (C6.1.2)."""
         if not self.name:
             return []
-        cut = value if self.bits == 64 else f"(u32)({value})"
-        return [f"{self.name} = {cut};", *(["STACK_HOLDS;"] if self.name == "sp" else [])]
+        if self.name == "sp":
+            raise Refused("the stack pointer is written")
+        return [f"{self.name} = {value if self.bits == 64 else f'(u32)({value})'};"]
 
 
 @dataclass(frozen=True)
@@ -98,15 +99,23 @@ class Part:
         """The type of its value in C."""
         return PART_TYPES[self.letter]
 
+    @property
+    def halves(self) -> tuple[str, str]:
+        """The two variables of C that have its register."""
+        return f"v{self.number}_low", f"v{self.number}_high"
+
     def read(self) -> str:
-        """Its value."""
-        return f"v{self.number}" if self.kind == "vec" else f"v{self.number}.{self.kind}[0]"
+        """Its value as 64 bits, of which those above it are 0."""
+        if self.letter == "q":
+            raise Refused("all bits of a vector as a number")
+        return self.halves[0] if self.letter == "d" else f"(u64)({self.kind}){self.halves[0]}"
 
     def write(self, value: str) -> list[str]:
         """Writes a value, which clears the bits above it (C1.2.5)."""
-        if self.kind == "vec":
-            return [f"v{self.number} = {value};"]
-        return [f"{{ {self.kind} it_ = ({self.kind})({value}); v{self.number} = NOTHING; {self.read()} = it_; }}"]
+        if self.letter == "q":
+            raise Refused("a number as all bits of a vector")
+        low, high = self.halves
+        return [f"{low} = {value if self.letter == 'd' else f'({self.kind})({value})'};", f"{high} = 0;"]
 
 
 @dataclass(frozen=True)
@@ -128,21 +137,36 @@ class Lanes:
         """The width of a lane in bits."""
         return 8 * TYPE_BYTES[self.kind]
 
+    @property
+    def halves(self) -> tuple[str, str]:
+        """The two variables of C that have its register."""
+        return f"v{self.number}_low", f"v{self.number}_high"
+
+    @property
+    def is_half(self) -> bool:
+        """Whether its lanes are those of the lower half alone; the upper half is written as 0."""
+        return self.bits * self.count == 64
+
+    def _one_at(self) -> tuple[str, int]:
+        """The half that has the one lane, and the number of bits below it there."""
+        if self.lane is None:
+            raise Refused("a vector where one lane is known")
+        return self.halves[self.lane * self.bits // 64], self.lane * self.bits % 64
+
     def one(self) -> str:
-        """The one lane, to be read or written: the others stay as they are."""
-        return f"v{self.number}.{self.kind}[{self.lane}]"
+        """The value of the one lane as 64 bits, without a sign."""
+        half, below = self._one_at()
+        shifted = f"({half} >> {below})" if below else half
+        return shifted if self.bits == 64 else f"(u64)({self.kind}){shifted}"
 
-    def each(self, place: str = "i") -> str:
-        """The lane at a place, to be written."""
-        return f"v{self.number}.{self.kind}[{place}]"
-
-    def read(self, place: str = "i") -> str:
-        """The lane at a place, as 64 bits without a sign, so that no sum or product of lanes overflows an int of C."""
-        return f"(u64){self.each(place)}"
-
-    def read_signed(self, place: str = "i") -> str:
-        """The lane at a place, as 64 bits with its sign."""
-        return f"(i64)({self.kind.replace('u', 'i')}){self.each(place)}"
+    def write_one(self, value: str) -> list[str]:
+        """Writes the one lane: the others stay as they are."""
+        half, below = self._one_at()
+        if self.bits == 64:
+            return [f"{half} = {value};"]
+        mask = (1 << self.bits) - 1
+        cut = f"((u64)({self.kind})({value}) << {below})"
+        return [f"{half} = ({half} & {~(mask << below) & 0xFFFFFFFFFFFFFFFF:#x}u) | {cut};"]
 
 
 @dataclass(frozen=True)
@@ -183,6 +207,21 @@ class Address:
 
 
 @dataclass(frozen=True)
+class Place:
+    """A place in the frame of the function, or of its caller: its distance from the stack pointer at entry."""
+
+    at: int
+
+    def pointer(self) -> str:
+        """Its address as a pointer of C."""
+        return f"FRAME({self.at})"
+
+    def read(self) -> str:
+        """Its address as 64 bits."""
+        return f"ADDRESS({self.pointer()})"
+
+
+@dataclass(frozen=True)
 class Listed:
     """The vector registers of a load or a store of vectors."""
 
@@ -214,7 +253,9 @@ class Word:
     text: str
 
 
-Operand = Union[Whole, Part, Lanes, Immediate, Fraction, Shift, Address, Listed, Condition, Target, Word]
+Operand = Union[
+    Whole, Part, Lanes, Immediate, Fraction, Shift, Address, Place, Listed, Condition, Target, Word
+]
 
 
 def split(text: str) -> list[str]:

@@ -1,4 +1,4 @@
-"""The three forms of a release: an archive, a Debian package and a wheel."""
+"""The forms of a release: an archive, a Debian package, a wheel, and packages of sources."""
 
 from __future__ import annotations
 
@@ -6,6 +6,7 @@ import hashlib
 import os
 import pathlib
 import re
+import shutil
 import subprocess
 import sys
 
@@ -70,6 +71,24 @@ def wheel(into: pathlib.Path) -> pathlib.Path:
     return into / wheel_backend.write_wheel(str(into), f"py3-none-{'.'.join(tags)}")
 
 
+def _packed(root: pathlib.Path, to: pathlib.Path, compressor: str) -> None:
+    """Packs a folder; the same files give the same bytes."""
+    words = ["tar", "--sort=name", f"--mtime=@{commit_time()}", "--owner=0", "--group=0", "--numeric-owner"]
+    words += ["--format=gnu", f"--use-compress-program={compressor}", "-cf", str(to), root.name]
+    subprocess.run(words, check=True, cwd=root.parent)
+
+
+def sources(into: pathlib.Path, room: pathlib.Path) -> None:
+    """Makes the packages that build from the library as one file of C, and the one for npm."""
+    subprocess.run([TOP / "bindings" / "portable" / "packages" / "stage", room], check=True)
+    shutil.copyfile(room / f"riddlesage-{VERSION}.tar.gz", into / f"riddlesage-{VERSION}.tar.gz")
+    root = settled(room / f"riddlesage-{VERSION}-source")
+    _packed(root, into / f"{root.name}.tar.xz", "xz -9 -T1")
+    # npm wants all files of a package in a folder of this name
+    module = settled((room / f"riddlesage-{VERSION}-npm").rename(room / "package"))
+    _packed(module, into / f"riddlesage-{VERSION}-npm.tgz", "gzip -9 -n")
+
+
 def archive(into: pathlib.Path, room: pathlib.Path, parts: Parts, wheel: pathlib.Path) -> None:
     """Makes the archive, which can be unpacked anywhere."""
     root = room / NAME
@@ -78,10 +97,7 @@ def archive(into: pathlib.Path, room: pathlib.Path, parts: Parts, wheel: pathlib
     for name in ("README.md", "BUILT-FROM"):
         link(root / name, f"share/doc/riddlesage/{name}")
     put(root / "SHA256SUMS", sums(root, "sha256"))
-    settled(root)
-    words = ["tar", "--sort=name", f"--mtime=@{commit_time()}", "--owner=0", "--group=0", "--numeric-owner"]
-    words += ["--format=gnu", "--use-compress-program=xz -9 -T1", "-cf", f"{into}/{NAME}.tar.xz", NAME]
-    subprocess.run(words, check=True, cwd=room)
+    _packed(settled(root), into / f"{NAME}.tar.xz", "xz -9 -T1")
 
 
 def debian_package(into: pathlib.Path, room: pathlib.Path, parts: Parts) -> None:

@@ -16,8 +16,10 @@ BEGUN = TOP / "out" / "begun"
 # The files that tests/all builds, and that are parts of a release.
 LIBRARY = ("bindings/out/libriddlesage.a", "bindings/out/libriddlesage.so")
 PAGE = "page/out/riddlesage.html"
+# The library as one file of C, and the module of the page: what the packages of sources are made of.
+PORTABLE = ("bindings/out/riddlesage_portable.c", "page/out/riddlesage.wasm")
 OBJECTS = {name: f"crates/{name}/out/{name}.o" for name in PROGRAMS}
-PARTS = (*OBJECTS.values(), *LIBRARY, PAGE)
+PARTS = (*OBJECTS.values(), *LIBRARY, PAGE, *PORTABLE)
 
 
 @dataclasses.dataclass(frozen=True)

@@ -15,11 +15,14 @@ are not modelled. Levels are bit values: 0 is dominant, 1 recessive; lists of th
 bus with one call, and injects bit errors. On a `Bus`, controllers of your own may take part as well.
 
 The calls are those of riddlesage.h, in `libriddlesage.so`. It is searched for at the environment variable
-RIDDLESAGE_LIBRARY; without that in this package and beside it, in bindings/out, and among the system's libraries. The
-Rattle functions that its calls use are proved; this package is only tested.
+RIDDLESAGE_LIBRARY; without that in this package and beside it, in bindings/out, and among the system's libraries. It is
+loaded by the first call that needs it, so frames, DBC files and logs can be read without it. The Rattle functions that
+its calls use are proved; this package is only tested.
 """
 
 from __future__ import annotations
+
+from typing import TYPE_CHECKING
 
 from riddlesage._bus import Bus, Device, Happened
 from riddlesage._frames import (
@@ -35,7 +38,8 @@ from riddlesage._frames import (
     decode,
     encode,
 )
-from riddlesage._library import VERSION
+from riddlesage._library import MissingLibrary, version
+from riddlesage._marks import Field, Mark, marks
 from riddlesage._play import Played, play
 from riddlesage._ports import Counters, Entry, Event, Phase, Port, Reported, Rule, Run, Standing, State
 from riddlesage._texts import BadByte, BadScenario, decode_trace, run
@@ -52,9 +56,12 @@ __all__ = [
     "Entry",
     "Event",
     "Fault",
+    "Field",
     "Frame",
     "Happened",
     "Heard",
+    "Mark",
+    "MissingLibrary",
     "Phase",
     "Played",
     "Port",
@@ -66,12 +73,20 @@ __all__ = [
     "Standing",
     "State",
     "Status",
-    "__version__",
     "decode",
     "decode_trace",
     "encode",
+    "marks",
     "play",
     "run",
 ]
 
-__version__ = VERSION
+if TYPE_CHECKING:
+    __version__: str
+else:
+
+    def __getattr__(name):  # noqa: ANN001, ANN202 - with types, each misspelt name would be a string
+        """The version, which is that of the library."""
+        if name == "__version__":
+            return version()
+        raise AttributeError(f"module {__name__!r} has no attribute {name!r}")

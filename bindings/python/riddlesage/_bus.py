@@ -13,8 +13,6 @@ from riddlesage._library import HitKind, PlainHit, PlainWire, lib
 from riddlesage._play import count_in
 from riddlesage._ports import Event, Reported
 
-# It is called in each bit time, so its arguments have the right types already.
-_step = lib.riddlesage_wire_step
 _UNKNOWN = -1
 
 
@@ -150,6 +148,8 @@ class _Wire:
     def __init__(self, count: int) -> None:
         self.drives, self.seen = bytearray(count), bytearray(count)
         drives, seen = ((ctypes.c_uint8 * count).from_buffer(levels) for levels in (self.drives, self.seen))
+        # It is called in each bit time, so its arguments have the right types already.
+        self._step = lib.riddlesage_wire_step
         self._plain, self._level = PlainWire(), ctypes.c_uint8()
         self._before = ctypes.byref(self._plain), drives, ctypes.c_size_t(count)
         self._behind = ctypes.byref(self._level), seen
@@ -180,7 +180,7 @@ class _Wire:
             self._lasting = [*self._inside.get(begun - 1, ()), *self._inside.get(begun, ())]
             self._call = self._arguments(self._lasting)
         timed = self._timed.get(time)
-        status = _step(*(self._arguments([*self._lasting, *timed]) if timed else self._call))
+        status = self._step(*(self._arguments([*self._lasting, *timed]) if timed else self._call))
         if status:
             raise Refused(Status(status))
         return self._level.value

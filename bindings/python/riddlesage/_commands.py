@@ -3,13 +3,19 @@
 from __future__ import annotations
 
 import contextlib
+import gzip
+import io
 import os
 import sys
-from collections.abc import Callable, Iterator
-from typing import BinaryIO, NoReturn
+from collections.abc import Callable, Iterable, Iterator
+from typing import Any, BinaryIO, NoReturn
+
+from riddlesage._library import MissingLibrary
 
 # The most refused lines of a file that are reported one by one.
 _MOST_REPORTED = 20
+# How a file of gzip begins.
+_GZIP = b"\x1f\x8b"
 
 
 class Refusals:
@@ -42,15 +48,40 @@ def opened(file: str) -> Iterator[BinaryIO]:
         yield given
 
 
-def lines_of(file: str) -> Iterator[tuple[int, str]]:
-    """Each line of an ASCII file with its number, without its line end. A line with other bytes cannot be read."""
+@contextlib.contextmanager
+def unpacked(file: str) -> Iterator[io.BufferedReader]:
+    """A file, or standard input for `-`; its content if it is compressed with gzip."""
     with opened(file) as given:
-        for number, line in enumerate(given, 1):
-            yield number, line.decode("ascii", "replace").rstrip("\r\n")
+        buffered = _buffered(given)
+        if buffered.peek(2)[:2] == _GZIP:
+            with gzip.GzipFile(fileobj=buffered) as content:
+                yield _buffered(content)
+        else:
+            yield buffered
+
+
+def _buffered(given: Any) -> io.BufferedReader:
+    """What is read from a file with `peek`, which some files do not have."""
+    return given if isinstance(given, io.BufferedReader) else io.BufferedReader(given)
+
+
+def lines_in(given: Iterable[bytes]) -> Iterator[tuple[int, str]]:
+    """Each line of an ASCII file with its number, without its line end. A line with other bytes cannot be read."""
+    for number, line in enumerate(given, 1):
+        yield number, line.decode("ascii", "replace").rstrip("\r\n")
+
+
+def lines_of(file: str) -> Iterator[tuple[int, str]]:
+    """The lines of a file, as `lines_in` has them."""
+    with opened(file) as given:
+        yield from lines_in(given)
 
 
 def end_with(main: Callable[[], int]) -> NoReturn:
-    """Runs a command, and exits with its status: 2 if a file cannot be read, 1 if nobody reads its output any more."""
+    """Runs a command, and exits with its status.
+
+    It is 2 if a file cannot be read, or the library is missing; 1 if nobody reads its output any more.
+    """
     try:
         status = main()
         sys.stdout.flush()
@@ -59,5 +90,8 @@ def end_with(main: Callable[[], int]) -> NoReturn:
         status = 1
     except OSError as error:
         print(f"{error.filename or 'standard input'}: {error.strerror}", file=sys.stderr)
+        status = 2
+    except MissingLibrary as missing:
+        print(missing, file=sys.stderr)
         status = 2
     sys.exit(status)

@@ -13,7 +13,9 @@ from riddlesage._library import PlainFrame, PlainHeard, lib
 DOMINANT = 0
 RECESSIVE = 1
 
-_MOST_LEVELS = 157
+MOST_LEVELS = 157
+# The ranges of a frame's fields, as the library has them: a frame is tested without it.
+_HIGHEST_STANDARD, _HIGHEST_EXTENDED, _HIGHEST_DLC = (1 << 11) - 1, (1 << 29) - 1, 15
 
 
 class Status(enum.IntEnum):
@@ -159,7 +161,11 @@ class Frame:
         if len(self.data) != (0 if self.remote else min(self.dlc, 8)):
             kind = "a remote frame" if self.remote else "a data frame"
             raise ValueError(f"{kind} with DLC {self.dlc} cannot have {len(self.data)} data bytes")
-        encode(self)
+        highest = _HIGHEST_EXTENDED if self.extended else _HIGHEST_STANDARD
+        if not 0 <= operator.index(self.identifier) <= highest:
+            raise BadFrame(Status.BAD_IDENTIFIER)
+        if not 0 <= self.dlc <= _HIGHEST_DLC:
+            raise BadFrame(Status.BAD_DLC)
 
     @classmethod
     def from_text(cls, text: str) -> Frame:
@@ -183,12 +189,7 @@ class Frame:
         return f"{identifier} {'R' if self.remote else 'D'} {self.dlc}{data}"
 
     def _plain(self) -> PlainFrame:
-        plain = PlainFrame(
-            in_range(self.identifier, 32, BadFrame(Status.BAD_IDENTIFIER)),
-            bool(self.extended),
-            bool(self.remote),
-            in_range(self.dlc, 8, BadFrame(Status.BAD_DLC)),
-        )
+        plain = PlainFrame(operator.index(self.identifier), bool(self.extended), bool(self.remote), self.dlc)
         plain.data[: len(self.data)] = self.data
         return plain
 
@@ -229,9 +230,9 @@ class Heard:
 
 def encode(frame: Frame) -> bytes:
     """Encodes a frame: the levels that its transmitter drives, with stuff bits, the ACK slot recessive (3.2.1, 6)."""
-    levels = ctypes.create_string_buffer(_MOST_LEVELS)
+    levels = ctypes.create_string_buffer(MOST_LEVELS)
     count = ctypes.c_size_t()
-    status = lib.riddlesage_encode(plain_of(frame), levels, _MOST_LEVELS, count)
+    status = lib.riddlesage_encode(plain_of(frame), levels, MOST_LEVELS, count)
     if status:
         raise BadFrame(Status(status))
     return levels.raw[: count.value]
@@ -243,7 +244,7 @@ def decode(levels: Buffer) -> Heard:
     It reads at most the first 157 levels: no frame has more.
     """
     heard, place = PlainHeard(), ctypes.c_size_t()
-    status = lib.riddlesage_decode(bytes(levels[:_MOST_LEVELS]), min(len(levels), _MOST_LEVELS), heard, place)
+    status = lib.riddlesage_decode(bytes(levels[:MOST_LEVELS]), min(len(levels), MOST_LEVELS), heard, place)
     if status >= Status.SHORT:
         raise Fault(Status(status), place.value)
     demand(status)

@@ -1,11 +1,13 @@
-"""The shared object, with the declarations of riddlesage.h."""
+"""The shared object, with the declarations of riddlesage.h. It is loaded when a call is used for the first time."""
 
 from __future__ import annotations
 
 import ctypes
 import enum
+import functools
 import os
 import pathlib
+from typing import Any
 
 # The name for the system's loader: it ends with the major version.
 _SONAME = "libriddlesage.so.0"
@@ -93,27 +95,6 @@ class PlainPort(ctypes.Structure):
     _fields_ = (("at", ctypes.c_void_p), ("live", ctypes.c_bool), ("self", ctypes.c_void_p))
 
 
-def _library() -> ctypes.CDLL:
-    here = pathlib.Path(__file__).resolve().parent
-    named = os.environ.get("RIDDLESAGE_LIBRARY")
-    folders = [here, here.parent, here.parent.parent / "out"]
-    places = [pathlib.Path(named)] if named else [folder / "libriddlesage.so" for folder in folders]
-    for place in places:
-        if place.is_file():
-            return ctypes.CDLL(str(place))
-    if named is None:
-        try:
-            return ctypes.CDLL(_SONAME)
-        except OSError:
-            pass
-    raise ImportError(
-        f"libriddlesage.so is not at {' nor at '.join(map(str, places))}; the wheel of a release has it, bindings/build "
-        "builds it, and RIDDLESAGE_LIBRARY may name it"
-    )
-
-
-lib = _library()
-
 _PORT = ctypes.POINTER(PlainPort)
 _FRAME = ctypes.POINTER(PlainFrame)
 _U8 = ctypes.POINTER(ctypes.c_uint8)
@@ -146,24 +127,93 @@ _PARAMETERS = {
         ctypes.c_size_t,
         _SIZE,
     ),
+    "riddlesage_wire_run": (
+        ctypes.POINTER(PlainWire),
+        ctypes.POINTER(_PORT),
+        ctypes.c_size_t,
+        ctypes.POINTER(PlainHit),
+        ctypes.c_size_t,
+        ctypes.c_size_t,
+        ctypes.c_char_p,
+        _FRAME,
+        _SIZE,
+    ),
     "riddlesage_encode": (_FRAME, ctypes.c_char_p, ctypes.c_size_t, _SIZE),
     "riddlesage_decode": (ctypes.c_char_p, ctypes.c_size_t, ctypes.POINTER(PlainHeard), _SIZE),
+    "riddlesage_marks": (ctypes.c_char_p, ctypes.c_size_t, ctypes.c_char_p, ctypes.c_char_p, _SIZE),
     "riddlesage_run": (*_DOCUMENT, ctypes.c_char_p),
     "riddlesage_decode_trace": (*_DOCUMENT, _SIZE),
     "riddlesage_decode_levels": (*_DOCUMENT, _SIZE),
 }
 
-for _name, _parameters in _PARAMETERS.items():
-    _function = getattr(lib, _name)
-    _function.argtypes = _parameters
-    _function.restype = ctypes.c_int
+_NAMES = ("status", "event", "phase", "rule")
 
-for _named in ("status", "event", "phase", "rule"):
-    _function = getattr(lib, f"riddlesage_{_named}_name")
-    _function.argtypes = (ctypes.c_int,)
-    _function.restype = ctypes.c_char_p
 
-lib.riddlesage_version.argtypes = ()
-lib.riddlesage_version.restype = ctypes.c_char_p
+class MissingLibrary(ImportError):
+    """The shared object is not found, or cannot be loaded. The text says where it was searched for."""
 
-VERSION: str = lib.riddlesage_version().decode("ascii")
+
+def _found() -> ctypes.CDLL:
+    """The shared object, which is searched for as the package's documentation says."""
+    here = pathlib.Path(__file__).resolve().parent
+    named = os.environ.get("RIDDLESAGE_LIBRARY")
+    folders = [here, here.parent, here.parent.parent / "out"]
+    places = [pathlib.Path(named)] if named else [folder / "libriddlesage.so" for folder in folders]
+    for place in places:
+        if place.is_file():
+            return _opened(str(place))
+    if named is None:
+        try:
+            return ctypes.CDLL(_SONAME)
+        except OSError:
+            pass
+    raise MissingLibrary(
+        f"libriddlesage.so is not at {' nor at '.join(map(str, places))}; the wheel of a release has it, "
+        "bindings/build builds it, and RIDDLESAGE_LIBRARY may name it"
+    )
+
+
+def _opened(place: str) -> ctypes.CDLL:
+    try:
+        return ctypes.CDLL(place)
+    except OSError as error:
+        raise MissingLibrary(f"{place} cannot be loaded: {error}") from error
+
+
+@functools.lru_cache(maxsize=None)
+def _loaded() -> ctypes.CDLL:
+    """The shared object, with the types of its calls."""
+    found = _found()
+    for name, parameters in _PARAMETERS.items():
+        function = getattr(found, name, None)
+        if function is None:
+            raise MissingLibrary(f"{found._name} is older than this package: it has no {name}")
+        function.argtypes = parameters
+        function.restype = ctypes.c_int
+    for named in _NAMES:
+        function = getattr(found, f"riddlesage_{named}_name")
+        function.argtypes = (ctypes.c_int,)
+        function.restype = ctypes.c_char_p
+    found.riddlesage_version.argtypes = ()
+    found.riddlesage_version.restype = ctypes.c_char_p
+    return found
+
+
+class _Library:
+    """The calls of the shared object. Without it the first use of one raises MissingLibrary."""
+
+    def __getattr__(self, name: str) -> Any:
+        if name.startswith("__"):
+            raise AttributeError(name)
+        call = getattr(_loaded(), name)
+        # from now on it is found without this method
+        setattr(self, name, call)
+        return call
+
+
+lib = _Library()
+
+
+def version() -> str:
+    """The version of the shared object."""
+    return str(lib.riddlesage_version().decode("ascii"))

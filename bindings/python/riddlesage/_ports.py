@@ -14,11 +14,6 @@ from riddlesage._buffers import Buffer, Room, bytes_at
 from riddlesage._frames import Frame, Refused, Status, demand, frame_of, in_range, plain_of
 from riddlesage._library import PlainFrame, PlainPort, PlainStanding, lib
 
-# These two are called in each bit time. Their arguments are made once per port, with the right types, so that no call
-# has to convert them.
-_drive = lib.riddlesage_port_drive
-_sample = lib.riddlesage_port_sample
-
 
 class Event(enum.IntEnum):
     """The event of a bit time, as a port reports it. riddlesage.h describes each."""
@@ -153,6 +148,9 @@ class Port:
         if max(rooms) >= 1 << 63:
             raise MemoryError
         self._lock = threading.Lock()
+        # These two are called in each bit time. Their arguments are made once per port, with the right types, so that
+        # no call has to convert them.
+        self._drive, self._sample = lib.riddlesage_port_drive, lib.riddlesage_port_sample
         self._port = PlainPort()
         self._at = ctypes.byref(self._port)
         self._level = ctypes.c_uint8()
@@ -217,7 +215,7 @@ class Port:
     def drive(self) -> int:
         """Returns the level that the port drives in this bit time. The port does not change."""
         with self._lock:
-            status = _drive(*self._drive_arguments)
+            status = self._drive(*self._drive_arguments)
             level = self._level.value
         if status:
             raise Refused(Status(status))
@@ -228,7 +226,7 @@ class Port:
         if level != 0 and level != 1:
             raise Refused(Status.BAD_LEVEL)
         with self._lock:
-            status = _sample(self._at, self._levels[level], self._event_at, self._frame_at)
+            status = self._sample(self._at, self._levels[level], self._event_at, self._frame_at)
             code = self._event.value
             frame = frame_of(self._frame) if not status and 0 < code <= Event.RECEIVED else None
         if status:

@@ -38,8 +38,10 @@ _SHOWN_DATA = re.compile(r"((?:[0-9A-F]{2} )*(?:[0-9A-F]{2})?)(?: *'.*')?")
 _SECONDS = re.compile(r"([0-9]{1,18})\.([0-9]+)")
 _REMOTE = re.compile(r"[Rr]([0-8]?)(?:(?<=8)_([9A-Fa-f]))?")
 _DATA = re.compile(r"((?:\.?[0-9A-Fa-f]{2})*)(?:_([9A-Fa-f]))?")
-# Linux marks its error frames by this bit of the identifier.
+# Linux marks its error frames by this bit of the identifier. These of its other bits stand for an error on the bus: in
+# a frame, in the acknowledgement, of any kind.
 _ERROR = 1 << 29
+_BUS_ERRORS = 0x08 | 0x20 | 0x80
 _EPOCH = datetime.datetime(1970, 1, 1)
 
 
@@ -48,9 +50,13 @@ class BadLine(RiddlesageError, ValueError):
 
 
 class Other(enum.Enum):
-    """What a line may report other than a classical frame."""
+    """What a line may report other than a classical frame.
+
+    Linux also writes error frames when only the state of a controller changes, or when it loses an arbitration.
+    """
 
     ERROR = "an error frame"
+    NOTICE = "an error frame without an error on the bus"
     FD = "a CAN FD frame"
 
 
@@ -94,7 +100,7 @@ def text_of(frame: Frame) -> str:
 def _read_frame(identifier: str, content: str) -> Frame | Other:
     """The frame of the texts before and after the first `#`."""
     if _is_error(identifier):
-        return Other.ERROR
+        return error_of(int(identifier, 16))
     if content.startswith("#"):
         return Other.FD
     remote, data = _REMOTE.fullmatch(content), _DATA.fullmatch(content)
@@ -110,7 +116,7 @@ def _shown_frame(found: re.Match[str]) -> Frame | Other:
     """The frame of a line of candump's screen output."""
     identifier, length, content = found["identifier"], found["length"] or "", found["content"]
     if _is_error(identifier):
-        return Other.ERROR
+        return error_of(int(identifier, 16))
     if len(length) == 2:
         return Other.FD
     dlc = int(length or found["dlc"], 16)
@@ -124,6 +130,12 @@ def _shown_frame(found: re.Match[str]) -> Frame | Other:
 
 def _is_error(identifier: str) -> bool:
     return len(identifier) > 3 and bool(int(identifier, 16) & _ERROR)
+
+
+def error_of(identifier: int) -> Other:
+    """What an error frame of Linux reports. One that says nothing counts as an error on the bus."""
+    classes = identifier & (_ERROR - 1)
+    return Other.NOTICE if classes and not classes & _BUS_ERRORS else Other.ERROR
 
 
 def _made(identifier: str, data: bytes, dlc: int, remote: bool) -> Frame:

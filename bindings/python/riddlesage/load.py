@@ -1,10 +1,11 @@
 r"""Measures the bus load of the frames in a log, to the bit.
 
     python3 -m riddlesage.load LOG --bitrate 500000
+    python3 -m riddlesage.load LOG --plan network.toml
 
-A log is one of candump (`riddlesage.candump`), or an .asc or .blf file, which python-can reads if it is installed. Each
-frame takes its encoded length, with the stuff bits that it really had, and three bit times of intermission. Error flags
-and destroyed transmission attempts are in no log, and are not counted.
+A log has any of the formats of `riddlesage.logs`. Each frame takes its encoded length, with the stuff bits that it
+really had, and three bit times of intermission. Error flags and destroyed transmission attempts are in no log, and are
+not counted. With a plan, a network for canplan, the log is compared with its assumptions instead.
 
     >>> from riddlesage import Frame
     >>> from riddlesage.load import Load
@@ -24,17 +25,18 @@ from __future__ import annotations
 import argparse
 import collections
 import functools
-import importlib
 import sys
-from collections.abc import Iterator, Sequence
-from typing import Any, NamedTuple, Protocol
+from collections.abc import Callable, Iterator, Sequence
+from typing import NamedTuple, TypeVar
 
-from riddlesage._commands import Refusals, end_with, lines_of
+from riddlesage._commands import Refusals, end_with, opened
 from riddlesage._frames import Frame, encode, frame_in
-from riddlesage.candump import BadLine, Line, Other, is_empty, read_line
+from riddlesage._plan import INTERMISSION, BadPlan, Comparison, Plan, read_plan
+from riddlesage.candump import Other
+from riddlesage.logs import PYTHON_CAN, MissingReader, read_log
 
-# Recessive levels after each frame, in which no other frame may start.
-INTERMISSION = 3
+__all__ = ["INTERMISSION", "SLACK", "Load", "Stretch", "compare", "main", "measure"]
+
 # The default: at most so many bit times between two frames that count as back to back.
 SLACK = 10
 # Moments are nanoseconds times the bit rate, so that they are integers: this many of them are a bit time.
@@ -86,7 +88,7 @@ class Load:
         if time < self._time and self.frames:
             raise ValueError("its time is before that of an earlier line")
         if isinstance(what, Other):
-            self.errors += what is Other.ERROR
+            self.errors += what is not Other.FD
             self.fd += what is Other.FD
             return
         message, bits = _measured(frame_in(what))
@@ -158,91 +160,51 @@ def _time_text(time: int) -> str:
     return f"{time // 10**9}.{time % 10**9 // 1000:06}"
 
 
-def _candump_lines(file: str, refusals: Refusals) -> Iterator[tuple[int, Line]]:
-    """The lines of a log of candump. Those that cannot be read are refused."""
-    for number, text in lines_of(file):
-        if is_empty(text):
-            continue
-        try:
-            yield number, read_line(text)
-        except BadLine as refused:
-            refusals.add(number, str(refused))
+_Taking = TypeVar("_Taking", Load, Comparison)
 
 
-def _python_can_lines(file: str, refusals: Refusals) -> Iterator[tuple[int, Line]]:
-    """The messages of a log that python-can reads, with their numbers in place of those of lines."""
-    can: Any = importlib.import_module("can")
-    number = 0
-    try:
-        with can.LogReader(file) as messages:
-            for number, message in enumerate(messages, 1):
-                try:
-                    what = _frame_of_message(message)
-                except ValueError as refused:
-                    refusals.add(number, f"this is not a frame: {refused}")
-                    continue
-                yield number, Line(round(message.timestamp * 10**6) * 1000, str(message.channel), what)
-    except OSError:
-        raise
-    except Exception as wrong:  # its readers may raise anything
-        refusals.add(number + 1, f"python-can cannot read on: {wrong}")
-
-
-class _Message(Protocol):
-    """A message of python-can."""
-
-    arbitration_id: int
-    data: bytearray
-    dlc: int
-    is_error_frame: bool
-    is_extended_id: bool
-    is_fd: bool
-    is_remote_frame: bool
-
-
-def _frame_of_message(message: _Message) -> Frame | Other:
-    """The frame of a message of python-can."""
-    if message.is_error_frame:
-        return Other.ERROR
-    if message.is_fd:
-        return Other.FD
-    data = b"" if message.is_remote_frame else bytes(message.data)
-    return Frame(message.arbitration_id, data, message.is_extended_id, message.is_remote_frame, message.dlc)
-
-
-def measure(file: str, bitrate: int, slack: int, refusals: Refusals) -> dict[str, Load]:
-    """The load of each channel of a log."""
-    read = _python_can_lines if file.lower().endswith((".asc", ".blf")) else _candump_lines
-    loads: dict[str, Load] = collections.defaultdict(lambda: Load(bitrate, slack))
-    for number, line in read(file, refusals):
+def _taken(file: str, make: Callable[[], _Taking], refusals: Refusals) -> dict[str, _Taking]:
+    """What takes the lines of a log, by channel. A line that it does not take is refused."""
+    by_channel: dict[str, _Taking] = collections.defaultdict(make)
+    for number, line in read_log(file, refusals):
         if line.time is None:
             refusals.add(number, "it has no time: candump writes one with -l, -L or -t a")
             continue
         try:
-            loads[line.channel].take(line.time, line.what)
+            by_channel[line.channel].take(line.time, line.what)
         except ValueError as refused:
             refusals.add(number, str(refused))
-    return loads
+    return by_channel
 
 
-def _arguments(words: Sequence[str] | None) -> argparse.Namespace:
+def measure(file: str, bitrate: int, slack: int, refusals: Refusals) -> dict[str, Load]:
+    """The load of each channel of a log."""
+    return _taken(file, lambda: Load(bitrate, slack), refusals)
+
+
+def compare(file: str, plan: Plan, bitrate: int, slack: int, refusals: Refusals) -> dict[str, Comparison]:
+    """The comparison of each channel of a log with a plan."""
+    return _taken(file, lambda: Comparison(plan, bitrate, slack), refusals)
+
+
+def _parser() -> argparse.ArgumentParser:
     parser = argparse.ArgumentParser(
         prog="python3 -m riddlesage.load",
         description="Reports the bus load of the frames in a log, to the bit: each frame with the stuff bits that it "
-        "had, and three bit times of intermission.",
+        "had, and three bit times of intermission. With --plan, it compares the log with a network instead: the "
+        "smallest distance and the largest jitter of each message, messages that the network lacks, and error frames.",
         epilog="Error frames and CAN FD frames are counted, but not measured. A line that cannot be read is reported "
-        "on standard error; then the exit status is 1.",
+        "on standard error; then the exit status is 1, and also if the log violates an assumption of the network.",
     )
-    log = "a log of candump, or - for standard input; .asc and .blf need python-can"
-    parser.add_argument("log", metavar="LOG", help=log)
-    parser.add_argument("--bitrate", type=_number, required=True, metavar="N", help="bit rate, in bits per second")
-    parser.add_argument("--channel", metavar="NAME", help="only this channel; without it all")
+    add = parser.add_argument
+    known = ", ".join(PYTHON_CAN)
+    add("log", metavar="LOG", help=f"candump, pcap or pcapng, or - for standard input; {known} need python-can; or .gz")
+    add("--bitrate", type=_number, metavar="N", help="bit rate, in bits per second; default that of the plan")
+    add("--plan", metavar="NETWORK", help="a network for canplan, of one bus")
+    add("--channel", metavar="NAME", help="only this channel; without it all")
     slack = f"frames at most this number of bit times apart count as back to back; default {SLACK}"
-    parser.add_argument("--slack", type=_number, default=SLACK, metavar="BITS", help=slack)
-    options = parser.parse_args(words)
-    if not options.bitrate:
-        parser.error("the bit rate must be above 0")
-    return options
+    add("--slack", type=_number, default=SLACK, metavar="BITS", help=slack)
+    return parser
 
 
 def _number(text: str) -> int:
@@ -251,25 +213,59 @@ def _number(text: str) -> int:
     return int(text)
 
 
+def _report(loads: dict[str, Load], refusals: Refusals) -> None:
+    """Prints the load of each channel."""
+    for channel, load in loads.items():
+        print("\n".join(load.lines(channel)))
+        if load.early:
+            faster = f"{load.early} frames follow others sooner than {load.bitrate} bits per second allow"
+            print(f"{refusals.file}: {channel}: {faster}", file=sys.stderr)
+
+
+def _plan_of(parser: argparse.ArgumentParser, options: argparse.Namespace) -> Plan:
+    """The plan that the options name. `options.bitrate` becomes its bit rate."""
+    with opened(options.plan) as given:
+        plan = read_plan(given.read())
+    if options.bitrate and plan.rate and options.bitrate != plan.rate:
+        parser.error(f"the bit rate of the plan is {plan.rate}")
+    options.bitrate = options.bitrate or plan.rate
+    return plan
+
+
+def _of(by_channel: dict[str, _Taking], channel: str | None, refusals: Refusals) -> dict[str, _Taking]:
+    """Those of a channel, or all. If there are none, that is reported."""
+    chosen = {name: it for name, it in by_channel.items() if channel in (None, name)}
+    if not chosen:
+        print(f"{refusals.file}: it has no frames of {channel or 'any bus'}", file=sys.stderr)
+    return chosen
+
+
 def main(words: Sequence[str] | None = None) -> int:
-    """Reports the load of each bus of a log."""
-    options = _arguments(words)
+    """Reports the load of each bus of a log, or compares it with a plan."""
+    parser = _parser()
+    options = parser.parse_args(words)
     refusals = Refusals(options.log)
     try:
-        loads = measure(options.log, options.bitrate, options.slack, refusals)
-    except ModuleNotFoundError:
-        print(f"{options.log}: .asc and .blf need python-can, which is missing (python3-can)", file=sys.stderr)
+        plan = _plan_of(parser, options) if options.plan else None
+        if not options.bitrate:
+            parser.error("a bit rate above 0 is needed: --bitrate")
+        if plan is None:
+            loads = _of(measure(options.log, options.bitrate, options.slack, refusals), options.channel, refusals)
+            _report(loads, refusals)
+            return refusals.end() or int(not loads)
+        compared = compare(options.log, plan, options.bitrate, options.slack, refusals)
+    except MissingReader as missing:
+        print(f"{options.log}: {missing}", file=sys.stderr)
         return 2
-    if not loads or options.channel not in (None, *loads):
-        print(f"{refusals.file}: it has no frames of {options.channel or 'any bus'}", file=sys.stderr)
-        return refusals.end() or 1
-    for channel, load in loads.items():
-        if options.channel in (None, channel):
-            print("\n".join(load.lines(channel)))
-            if load.early:
-                faster = f"{load.early} frames follow others sooner than {options.bitrate} bits per second allow"
-                print(f"{refusals.file}: {channel}: {faster}", file=sys.stderr)
-    return refusals.end()
+    except BadPlan as wrong:
+        print(f"{options.plan}: {wrong}", file=sys.stderr)
+        return 1
+    chosen = _of(compared, options.channel, refusals)
+    if len(chosen) > 1:
+        parser.error(f"a plan is of one bus; --channel names one of {', '.join(sorted(chosen))}")
+    for comparison in chosen.values():
+        print("\n".join(comparison.lines()))
+    return refusals.end() or int(not chosen or any(it.violated for it in chosen.values()))
 
 
 if __name__ == "__main__":

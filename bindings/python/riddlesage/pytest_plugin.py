@@ -8,26 +8,28 @@ A test with the fixture `can_case` is run with each case of the kit. The control
 `sample` returns any in the case; the final state too, if the controller has `state` and `counters`, as a Port has.
 
 `--can-only WORD` plays the cases whose names begin with WORD; `--can-without forced,hold` skips those that need what
-the test bench cannot do. The kit is searched for at the environment variable RIDDLESAGE_KIT; without that in this
+the test bench cannot do. `--can-coverage` reports which rules of docs/ACCESS.md the cases that are played make a
+controller apply. The kit is searched for at the environment variable RIDDLESAGE_KIT; without that in this
 package, and in the repository. The expected transcripts are those of the proved reference.
 """
 
 from __future__ import annotations
 
-import importlib
-import importlib.util
-import os
 import pathlib
-import sys
-from types import ModuleType
-from typing import TYPE_CHECKING, Any, Protocol, cast
+from typing import TYPE_CHECKING, Any, cast
 
 import pytest
 
-from riddlesage import Device, Event, Frame, Reported, State
+from riddlesage import Device, Event, Reported, State
+from riddlesage._kit import Holding, KitNotFoundError, kit, played
 
 if TYPE_CHECKING:
     from kit.documents import Case, Transcript
+
+    from riddlesage.coverage import Coverage
+
+# The name of the plugin that reports rule coverage.
+_COVERAGE = "riddlesage-coverage"
 
 _EVENTS = {
     Event.SENT: "sent",
@@ -45,32 +47,12 @@ _EVENTS = {
 _STATES = {State.ERROR_ACTIVE: "active", State.ERROR_PASSIVE: "passive", State.BUS_OFF: "off"}
 
 
-# The kit's package has this name, so that a project may have a package `kit` of its own.
-_PACKAGE = "riddlesage_kit"
-
-
-def _find_kit() -> pathlib.Path:
-    """The file of the kit's package."""
-    here = pathlib.Path(__file__).resolve()
-    named = os.environ.get("RIDDLESAGE_KIT")
-    places = [pathlib.Path(named)] if named else [here.parent / "conformance", here.parents[3] / "conformance"]
-    found = (place / "kit" / "__init__.py" for place in places)
-    kit = next((file for file in found if file.is_file()), None)
-    if kit is None:
-        raise pytest.UsageError("the conformance kit is not found; RIDDLESAGE_KIT may name its folder")
-    return kit
-
-
 def _kit(module: str) -> Any:
     """A module of the kit."""
-    if _PACKAGE not in sys.modules:
-        file = _find_kit()
-        spec = importlib.util.spec_from_file_location(_PACKAGE, file, submodule_search_locations=[str(file.parent)])
-        assert spec is not None and spec.loader is not None
-        package: ModuleType = importlib.util.module_from_spec(spec)
-        sys.modules[_PACKAGE] = package
-        spec.loader.exec_module(package)
-    return importlib.import_module(f"{_PACKAGE}.{module}")
+    try:
+        return kit(module)
+    except KitNotFoundError as missing:
+        raise pytest.UsageError(str(missing)) from None
 
 
 def _event_text(reported: Reported) -> str:
@@ -78,16 +60,11 @@ def _event_text(reported: Reported) -> str:
     return _EVENTS[reported.event] + (f" {reported.frame.text}" if reported.frame else "")
 
 
-class _Holding(Protocol):
-    def hold(self, count: int, /) -> None:
-        """Requests 0 to 2 overload frames, in place of an earlier request."""
-
-
 class CanCase:
     """A case of the kit, and its expected transcript."""
 
-    def __init__(self, case: Case, expected: Transcript) -> None:
-        self._case, self._expected = case, expected
+    def __init__(self, case: Case, expected: Transcript, coverage: Coverage | None = None) -> None:
+        self._case, self._expected, self._coverage = case, expected, coverage
 
     @property
     def name(self) -> str:
@@ -118,17 +95,11 @@ class CanCase:
 
     def _play(self, device: Device) -> Transcript:
         """The transcript of the device in the case."""
-        offers, holds = self._case.offers[::-1], self._case.holds[::-1]
         drove, events = "", []
-        for time, tester in enumerate(_kit("playing").seen_levels(self._case)):
-            while offers and offers[-1][0] == time:
-                device.offer(Frame.from_text(offers.pop()[1]))
-            while holds and holds[-1][0] == time:
-                cast(_Holding, device).hold(holds.pop()[1])
-            driven = device.drive()
-            # with `f` it samples a recessive level, whatever it drives
-            event = device.sample(1 if tester == "f" else driven & int(tester))
-            drove += str(int(driven))
+        if self._coverage:
+            self._coverage.play(self._case)
+        for time, driven, event in played(self._case, cast(Holding, device)):
+            drove += str(driven)
             if event is not None:
                 events.append((time, _event_text(event)))
         state, counters = getattr(device, "state", None), getattr(device, "counters", None)
@@ -136,17 +107,43 @@ class CanCase:
         if state is not None and counters is not None:
             transmit, receive = counters
             end = (_STATES[State(state)], int(transmit), int(receive))
-        played: Transcript = _kit("documents").Transcript(self.name, drove, events or None, None, end)
-        return played
+        given: Transcript = _kit("documents").Transcript(self.name, drove, events or None, None, end)
+        return given
 
 
 def pytest_addoption(parser: pytest.Parser) -> None:
     """The options of the plugin."""
     group = parser.getgroup("riddlesage")
+    group.addoption("--can-coverage", action="store_true", help="report which rules the cases that are played apply")
+    group.addoption("--can-coverage-junit", metavar="FILE", help="write this report as JUnit XML")
     group.addoption("--can-only", action="append", metavar="WORD", help="only cases whose names begin so")
     group.addoption(
         "--can-without", default="", metavar="NEEDS", help="what the test bench cannot do: forced,hold,queue,recovery"
     )
+
+
+class _CoverageReport:
+    """The rule coverage of the session, and its report at the end."""
+
+    def __init__(self, coverage: Coverage, junit: str | None) -> None:
+        self.coverage, self._junit = coverage, junit
+
+    def pytest_terminal_summary(self, terminalreporter: Any) -> None:
+        """Prints the report."""
+        terminalreporter.section("rule coverage")
+        for line in self.coverage.lines():
+            terminalreporter.line(line)
+        if self._junit:
+            pathlib.Path(self._junit).write_text(self.coverage.junit(), "utf-8")
+
+
+def pytest_configure(config: pytest.Config) -> None:
+    """Counts rule coverage, if an option asks for it."""
+    junit = config.getoption("--can-coverage-junit")
+    if junit or config.getoption("--can-coverage"):
+        from riddlesage.coverage import Coverage
+
+        config.pluginmanager.register(_CoverageReport(Coverage(), junit), _COVERAGE)
 
 
 def pytest_generate_tests(metafunc: pytest.Metafunc) -> None:
@@ -157,10 +154,12 @@ def pytest_generate_tests(metafunc: pytest.Metafunc) -> None:
     cases, expected = library.read_library([library.FOLDER, library.TRANSCRIPTS])
     only = tuple(metafunc.config.getoption("--can-only") or ("",))
     lacks = {need for need in metafunc.config.getoption("--can-without").split(",") if need}
+    report = metafunc.config.pluginmanager.get_plugin(_COVERAGE)
+    coverage = report.coverage if report else None
     chosen = []
     for case in cases:
         missing = sorted(lacks.intersection(case.needs))
         marks = [pytest.mark.skip(reason=f"the test bench has no {' and no '.join(missing)}")] if missing else []
         if case.name.startswith(only):
-            chosen.append(pytest.param(CanCase(case, expected[case.name]), id=case.name, marks=marks))
+            chosen.append(pytest.param(CanCase(case, expected[case.name], coverage), id=case.name, marks=marks))
     metafunc.parametrize("can_case", chosen)

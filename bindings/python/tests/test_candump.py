@@ -64,7 +64,8 @@ def test_forms(line: str, text: str) -> None:
     ("line", "what"),
     [
         ("(1436509052.249713) can0 20000080#0000000000000000", Other.ERROR),
-        ("  can0  20000004   [8]  00 0C 00 00 00 00 60 00   ERRORFRAME", Other.ERROR),
+        ("  can0  20000004   [8]  00 0C 00 00 00 00 60 00   ERRORFRAME", Other.NOTICE),
+        ("(1436509052.249713) can0 20000000#0000000000000000", Other.ERROR),
         ("123##1", Other.FD),
         ("(1436509052.249713) can0 12345678##30011223344556677889900AABB", Other.FD),
         ("  can0  123  [12]  00 11 22 33 44 55 66 77 88 99 AA BB", Other.FD),

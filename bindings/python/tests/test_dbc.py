@@ -11,7 +11,18 @@ from typing import Any
 import pytest
 import tomllib
 from riddlesage import Frame
-from riddlesage.dbc import Asked, BadDatabase, Message, main, network, read, text_of
+from riddlesage.dbc import (
+    Asked,
+    BadDatabase,
+    BadTable,
+    Message,
+    main,
+    network,
+    read,
+    read_database,
+    read_table,
+    text_of,
+)
 
 EXAMPLES = pathlib.Path(__file__).resolve().parent.parent / "examples"
 BOILER = EXAMPLES / "boiler.dbc"
@@ -338,3 +349,148 @@ def test_random() -> None:
             network(read(text_of(bytes(document))), Asked(500000, {"": 1}))
         except BadDatabase as refused:
             assert refused.faults
+
+
+@pytest.mark.parametrize(
+    ("attributes", "sending", "distance"),
+    [
+        ([], "", 0),
+        (["CycleTime 100"], "cyclic", 100000),
+        (["CycleTime 100", "CycleTimeFast 20"], "cyclic", 20000),
+        (["CycleTime 20", "CycleTimeFast 100"], "cyclic", 20000),
+        (["CycleTime 0", "CycleTimeFast 20"], "cyclicIfActive", 20000),
+        (["CycleTime 100", "DelayTime 5"], "cyclic", 100000),
+        (["CycleTime 100", "DelayTime 5"], "cyclicX", 100000),
+        (["CycleTime 100", "DelayTime 5"], "cyclicAndSpontaneous", 5000),
+        (["CycleTime 100", "CycleTimeFast 20", "DelayTime 5"], "cyclicIfActive", 5000),
+        (["CycleTime 100", "DelayTime 5"], "", 5000),
+        (["DelayTime 5"], "spontaneous", 5000),
+        (["DelayTime 5"], "cyclic", 0),
+        (["CycleTime 100", "DelayTime 200"], "spontaneous", 100000),
+    ],
+)
+def test_distances(attributes: list[str], sending: str, distance: int) -> None:
+    """The period is the shorter cycle time; the delay time counts if events may release a frame."""
+    lines = ["BO_ 1 Name: 8 A"]
+    for name, value in (it.split(" ") for it in attributes):
+        lines.append(f'BA_ "GenMsg{name}" BO_ 1 {value};')
+    if sending:
+        lines.append(f'BA_ "GenMsgSendType" BO_ 1 "{sending}";')
+    (message,) = read("\n".join(lines))
+    assert (message.distance, Asked(500000).period(message)) == (distance, distance)
+    assert Asked(500000, {"Name": 7}).period(message) == 7
+
+
+LONG = (
+    "BU_: A\n"
+    "BO_ 256 Short: 8 A\nBO_ 2147483904 Other: 8 A\nBO_ 3 Flexible: 12 A\n"
+    'BA_DEF_ BO_ "SystemMessageLongSymbol" STRING ;\nBA_DEF_DEF_ "SystemMessageLongSymbol" "";\n'
+    'BA_ "SystemNodeLongSymbol" BU_ A "ANodeWithALongName";\n'
+    'BA_ "SystemMessageLongSymbol" BO_ 256 "ShortButWithALongName";\n'
+    'BA_DEF_DEF_ "GenMsgCycleTime" 100;\n'
+)
+
+
+def test_long_names() -> None:
+    """Long names of messages and nodes; options and tables take both names of a message."""
+    messages, left_out = read_database(LONG, classical=True)
+    assert [(it.name, it.short, it.sender) for it in messages] == [
+        ("ShortButWithALongName", "Short", "ANodeWithALongName"),
+        ("Other", "", "ANodeWithALongName"),
+    ]
+    assert [(it.line, it.name) for it in left_out] == [(4, "Flexible")]
+    for name in ("Short", "ShortButWithALongName"):
+        assert [it.name for it in read(LONG, [name, "Flexible"])] == ["Other"]
+
+
+def test_left_out_of_can_fd() -> None:
+    """What is no classical frame is left out on request, and other faults are still reported."""
+    with pytest.raises(BadDatabase) as refused:
+        read_database(LONG + 'BA_ "GenMsgDelayTime" BO_ 3 x;\nBA_ "GenMsgDelayTime" BO_ 256 x;', classical=True)
+    assert [line for line, _ in refused.value.faults] == [11]
+
+
+def table_faults(text: str) -> list[tuple[int, str]]:
+    """Why a table is refused."""
+    with pytest.raises(BadTable) as refused:
+        read_table(text, read_database(LONG, classical=True))
+    return refused.value.faults
+
+
+@pytest.mark.parametrize("delimiter", [",", ";", "\t"])
+def test_table(delimiter: str) -> None:
+    """Columns in any order, by name or identifier; what is left out may be in the table."""
+    rows = [
+        "Comment,Deadline,name,identifier,jitter",
+        "x,9000,Short,,7",
+        "",
+        ",,,E 00000100,5",
+        ",1,,0x003,",
+        ",1,Flexible",
+    ]
+    times = read_table("\n".join(rows).replace(",", delimiter), read_database(LONG, classical=True))
+    assert times == ({}, {"ShortButWithALongName": 7, "Other": 5}, {"ShortButWithALongName": 9000})
+
+
+@pytest.mark.parametrize(
+    ("text", "faults"),
+    [
+        ("", [(1, "the first line must name a column name or identifier, and a column period, jitter or deadline")]),
+        ("name,comment\nShort,1", [(1, "the first line must name a column name or identifier, and a column period, ")]),
+        ("name,jitter,jitter\nShort,1,2", [(1, "column jitter is there twice")]),
+        (
+            "name,identifier,jitter\nNone,,1\n,0x5,1\nShort,S 101,\nShort,E 00000100,1\n,x,1\n,,1\nShort,,-1",
+            [
+                (2, "there is no message None"),
+                (3, "there is no message with the identifier 0x5"),
+                (4, "there is no message with the identifier S 101"),
+                (5, "E 00000100 is not the identifier of Short"),
+                (6, "this is not an identifier, such as 0x100, S 100 or E 18fef201: x"),
+                (7, "it names no message"),
+                (8, "jitter is not a whole number of microseconds: -1"),
+            ],
+        ),
+        ("name,jitter\nShort,1\nShortButWithALongName,2", [(3, "message ShortButWithALongName is also in line 2")]),
+        ("identifier,jitter\n0x100,1", [(2, "0x100 is a standard and an extended identifier; write S 100 or E 00")]),
+        ("name,jitter\nShort,1,2,3", [(2, "it has 4 fields, and the first line 2")]),
+    ],
+)
+def test_tables_refused(text: str, faults: list[tuple[int, str]]) -> None:
+    """Each wrong line of a table is reported."""
+    given = table_faults(text)
+    assert [line for line, _ in given] == [line for line, _ in faults]
+    for (_, why), (_, begin) in zip(given, faults):
+        assert why.startswith(begin)
+
+
+def test_table_of_command(tmp_path: pathlib.Path, capsys: pytest.CaptureFixture[str]) -> None:
+    """Options replace what the table gives; a wrong table is reported, and nothing written."""
+    table = tmp_path / "times.csv"
+    table.write_text("name,jitter,deadline\nBoilerState,100,5000\nPumpState,200,\n", "utf-8-sig")
+    assert main([str(BOILER), "--bitrate", "125000", "--table", str(table), "--jitter", "PumpState=7"]) == 0
+    written = capsys.readouterr()
+    found = {it["name"]: it for it in tomllib.loads(written.out)["message"]}
+    assert (found["BoilerState"]["jitter"], found["BoilerState"]["deadline"]) == (100, 5000)
+    assert (found["PumpState"]["jitter"], "deadline" in found["PumpState"]) == (7, False)
+    assert "assumed: no bit errors" in written.err
+    table.write_text("name,jitter\nOther,1\n", "ascii")
+    assert main([str(BOILER), "--bitrate", "125000", "--table", str(table)]) == 1
+    assert capsys.readouterr() == ("", f"{table}:2: there is no message Other\n")
+
+
+def test_notes_on_periods(tmp_path: pathlib.Path, capsys: pytest.CaptureFixture[str]) -> None:
+    """Periods that are not cycle times are reported, and messages without a delay time that events may release."""
+    file = tmp_path / "a.dbc"
+    lines = [f"BO_ {it} {name}: 8 A" for it, name in enumerate(["Fast", "Delayed", "Event", "Cyclic", "Long"])]
+    lines += ['BA_DEF_DEF_ "GenMsgCycleTime" 100;', 'BA_ "GenMsgCycleTimeFast" BO_ 0 10;']
+    lines += ['BA_ "GenMsgDelayTime" BO_ 1 20;', 'BA_ "GenMsgSendType" BO_ 2 "spontaneous";', "BO_ 9 Flexible: 64 A"]
+    file.write_text("\n".join(lines), "ascii")
+    assert main([str(file), "--bitrate", "125000", "--classical"]) == 0
+    assert capsys.readouterr().err.splitlines() == [
+        f"{file}:10: Flexible has 64 bytes; a classical frame has at most 8: it is of CAN FD, or sent in parts; "
+        "it is left out",
+        f"{file}: the period is the fast cycle time: Fast",
+        f"{file}: the period is the delay time: Delayed",
+        f"{file}: assumed to be at least a cycle time apart, despite send type spontaneous: Event",
+        f"{file}: 5 messages, 1 left out; assumed: jitter 0, the period as deadline, no bit errors",
+    ]

@@ -233,7 +233,7 @@ def test_without_python_can(
     """Without python-can its files are refused."""
     monkeypatch.setitem(sys.modules, "can", None)  # type: ignore[misc]
     assert main([str(tmp_path / "a.blf"), "--bitrate", "500000"]) == 2
-    assert capsys.readouterr().err.endswith("a.blf: .asc and .blf need python-can, which is missing (python3-can)\n")
+    assert capsys.readouterr().err.endswith("a.blf: a file *.blf needs python-can, which is missing (python3-can)\n")
 
 
 @pytest.mark.parametrize("content", [b"", b"words", bytes(100)])

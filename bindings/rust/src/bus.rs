@@ -42,7 +42,7 @@ impl Hit {
         match self {
             Self::At(time) => sys::Hit { time, kind: sys::HIT_AT, ..none },
             Self::In { attempt, offset } => sys::Hit { attempt, offset, kind: sys::HIT_IN, ..none },
-            Self::View { time, port } => sys::Hit { time, port, kind: sys::HIT_VIEW, ..none },
+            Self::View { time, port } => sys::Hit { time, port: port as u64, kind: sys::HIT_VIEW, ..none },
         }
     }
 }
@@ -84,7 +84,7 @@ pub fn play(ports: &mut [Port], bits: usize, offers: &[Offer], hits: &[Hit]) -> 
     let at: Vec<_> = ports.iter().map(Port::place).collect();
     let offers: Vec<_> = offers
         .iter()
-        .map(|offer| sys::Offer { time: offer.time, port: offer.port, frame: offer.frame.plain() })
+        .map(|offer| sys::Offer { time: offer.time, port: offer.port as u64, frame: offer.frame.plain() })
         .collect();
     let hits: Vec<_> = hits.iter().map(|hit| hit.plain()).collect();
     let (mut levels, mut refused) = (vec![0; bits], 0);

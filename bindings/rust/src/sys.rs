@@ -33,25 +33,25 @@ pub struct Standing {
     pub rule: u8,
 }
 
-#[repr(C)]
+#[repr(C, align(8))]
 #[derive(Clone, Copy, Default)]
 pub struct Offer {
     pub time: u64,
-    pub port: usize,
+    pub port: u64,
     pub frame: Frame,
 }
 
-#[repr(C)]
+#[repr(C, align(8))]
 #[derive(Clone, Copy, Default)]
 pub struct Hit {
     pub time: u64,
     pub attempt: u64,
     pub offset: u64,
-    pub port: usize,
+    pub port: u64,
     pub kind: u8,
 }
 
-#[repr(C)]
+#[repr(C, align(8))]
 #[derive(Clone, Copy, Debug, Default, PartialEq, Eq, Hash)]
 pub struct Wire {
     pub time: u64,

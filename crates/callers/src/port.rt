@@ -1,7 +1,7 @@
 //! Two ports on one bus, bit time by bit time.
 use can_bus::wired;
-use can_mac::Event;
 use can_node::{PackedNode, Port};
+use can_terms::Event;
 
 /// Runs two ports on one bus until the second has received a frame, for at most `bits` bit times. Returns the bit
 /// time of the reception, counted from 0. The frame is the last in the log.

@@ -6,8 +6,8 @@ use Rattle.std.proofs.lemmas.List.{take_all}
 use Rattle.can_frame.specs.Parts.{Parts}
 use Rattle.can_mac.specs.Frames.{slot_place}
 use Rattle.can_node.specs.Ports.{PortState}
-use Rattle.can_hit.specs.declared.hit.Hit.{Hit}
-use Rattle.can_hit.specs.declared.hit.Hit.TheVariants.{In}
+use Rattle.can_terms.specs.declared.hit.Hit.{Hit}
+use Rattle.can_terms.specs.declared.hit.Hit.TheVariants.{In}
 use Rattle.can_bus.specs.Attempts.{AreApart, IsLow, Tally, after_reception, hit_of, tallied}
 use Rattle.can_bus.specs.Course.{Transmission, and_hit, course_tally, hits_made, keeping}
 use Rattle.can_bus.specs.Quiet.{holds}

@@ -9,11 +9,11 @@ use Rattle.can_frame.specs.declared.level.Level.{Level}
 use Rattle.can_frame.specs.declared.level.Level.TheVariants.{Recessive}
 use Rattle.can_frame.specs.IdleRow.{idle_row}
 use Rattle.can_node.specs.Ports.{PortState, port_drives, port_step}
-use Rattle.can_hit.specs.declared.hit.Hit.{Hit}
-use Rattle.can_hit.specs.declared.hit.Hit.TheVariants.{At, In, View}
+use Rattle.can_terms.specs.declared.hit.Hit.{Hit}
+use Rattle.can_terms.specs.declared.hit.Hit.TheVariants.{At, In, View}
 use Rattle.can_bus.specs.declared.moment.Attempt.{Attempt}
 use Rattle.can_bus.specs.declared.call.Call.{Call}
-use Rattle.can_hit.specs.Hits.{is_above, is_pair_above}
+use Rattle.can_terms.specs.Hits.{is_above, is_pair_above}
 use Rattle.can_bus.specs.Run.{BusState, CallState, wired_level, begins_attempt, following, aged, attempt_now, hits_wire, hits_view, inverted_if, all_sampled, rest_after, recorded, bus_step, bus_after}
 use Rattle.can_bus.specs.Wired.{wired}
 use Rattle.can_bus.specs.Walks.{AreBelow, HitsRise, IsPassed, IsCall, in_next, is_hit, aged_by, for_ever, rested, until_at, until_in, until_view}

@@ -4,7 +4,7 @@ use Rattle.std.proofs.lemmas.List.{length-map}
 use Rattle.std.specs.Prelude.{◌↔◌, IfOk, IsOk, OnOk, Result}
 use Rattle.can_node.specs.Ports.{PortState, port_drives}
 use Rattle.can_bus.specs.declared.offer.Offer.{Offer}
-use Rattle.can_hit.specs.Hits.{AreTaken}
+use Rattle.can_terms.specs.Hits.{AreTaken}
 use Rattle.can_bus.specs.Offers.{AreOffered, all_made, call_after, call_level, offered_now, played, played_level}
 use Rattle.can_bus.specs.Run.{BusState, CallState, bus_after, bus_level, bus_run, bus_step, call_begun, recorded, rest_after}
 use Rattle.can_bus.specs.Wired.{wired}

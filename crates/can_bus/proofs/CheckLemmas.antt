@@ -6,7 +6,7 @@ use Rattle.std.proofs.lemmas.List.{get_or-take}
 use Rattle.std.proofs.lemmas.Option.{slice_get-get_or, get_or_from_slice_get, slice_get_within}
 use Rattle.can_bus.specs.declared.fault.BusFault.{BusFault}
 use Rattle.can_bus.specs.declared.fault.BusFault.TheVariants.{NoPort, TooManyPorts, NotRising, NoSuchPort}
-use Rattle.can_hit.specs.Sound.{FollowsLast, AreSound}
+use Rattle.can_terms.specs.Sound.{FollowsLast, AreSound}
 use Rattle.can_bus.specs.Inputs.{IsWrong, IsFirstWrong}
 
 -- an element of a front

@@ -1,6 +1,6 @@
 -- The course without hits, and with all frames offered at once.
 use Rattle.std.proofs.Common.{◌≡◌, List, [], sym, ◌∙◌}
-use Rattle.can_hit.specs.declared.hit.Hit.{Hit}
+use Rattle.can_terms.specs.declared.hit.Hit.{Hit}
 use Rattle.can_bus.specs.Course.{IsCourse, Transmission}
 use Rattle.can_bus.specs.Quiet.{AreDifferent, ascending}
 use Rattle.can_bus.specs.Repair.{FallInWindows, repaired_course}

@@ -10,7 +10,7 @@ use Rattle.can_wire.specs.Wire.{stuffed_part}
 use Rattle.can_mac.proofs.FrameParts.{length-wire}
 use Rattle.can_node.specs.Ports.{PortState, goes_before, same_field}
 use Rattle.can_node.proofs.WaitingLemmas.{Wins-goes_before, Shares-same_field, same_field-Shares}
-use Rattle.can_hit.specs.declared.hit.Hit.{Hit}
+use Rattle.can_terms.specs.declared.hit.Hit.{Hit}
 use Rattle.can_bus.specs.declared.offer.Offer.{Offer}
 use Rattle.can_bus.specs.Course.{FallsInWindow, Transmission, IsCourse, over, attempted, IsMade, keeping, left_by}
 use Rattle.can_bus.specs.Schedule.{unhit}

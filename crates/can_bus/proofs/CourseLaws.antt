@@ -7,7 +7,7 @@ use Rattle.can_node.specs.Ports.{waiting}
 use Rattle.can_node.specs.Waiting.{IsWaiting}
 use Rattle.can_node.proofs.WaitingLaws.{waiting-IsWaiting, waiting-some, waits}
 use Rattle.can_node.proofs.WaitingLemmas.{Shares-same_field}
-use Rattle.can_hit.specs.declared.hit.Hit.{Hit}
+use Rattle.can_terms.specs.declared.hit.Hit.{Hit}
 use Rattle.can_bus.specs.Course.{FallsInWindow, HitInWindows, IsCourse, IsNext, Transmission, and_hit, attempt_of, attempted, course_from, course_of, keeping, left_by, over}
 use Rattle.can_bus.specs.Attempts.{hit_of}
 use Rattle.can_bus.specs.Timed.{TimedParts, earliest, offered_by, without_offer}

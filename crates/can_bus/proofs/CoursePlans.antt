@@ -11,7 +11,7 @@ use Rattle.can_frame.specs.Parts.{Parts}
 use Rattle.can_frame.specs.Arbitration.{arbitration_field}
 use Rattle.can_frame.proofs.BeforeLemmas.{Before-differs}
 use Rattle.can_node.proofs.WaitingLaws.{waiting-IsWaiting}
-use Rattle.can_hit.specs.declared.hit.Hit.{Hit}
+use Rattle.can_terms.specs.declared.hit.Hit.{Hit}
 use Rattle.can_bus.specs.Course.{IsCourse, IsNext, Transmission, attempted, HitInWindows, course_at, frames_sent, keeping, over}
 use Rattle.can_bus.specs.Quiet.{AreDifferent, IsAscending, IsRising}
 use Rattle.can_bus.specs.Repair.{course_levels, repaired_course}

@@ -10,7 +10,7 @@ use Rattle.can_wire.specs.Layout.{frame_len}
 use Rattle.can_wire.specs.Wire.{head, unstuffed, stuffed_part, wire}
 use Rattle.can_node.specs.declared.entry.Entry.{Entry}
 use Rattle.can_node.specs.Ports.{waiting}
-use Rattle.can_hit.specs.declared.hit.Hit.TheVariants.{In}
+use Rattle.can_terms.specs.declared.hit.Hit.TheVariants.{In}
 use Rattle.can_bus.specs.Course.{Transmission, course_of, course_tally, ended_by, frames_sent, keeping}
 use Rattle.can_bus.specs.CourseWaiting.{attempts_between, going_before, hit_attempts, kept_times, left_on, sends_of}
 use Rattle.can_bus.specs.Quiet.{marked}

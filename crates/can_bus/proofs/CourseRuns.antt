@@ -14,7 +14,7 @@ use Rattle.can_node.specs.Ports.{PortState, port_drives}
 use Rattle.can_node.proofs.Arrivals.{GainingPort, gaining_drives, gaining_run}
 use Rattle.can_node.proofs.BrokenFrames.{seen_of}
 use Rattle.can_node.proofs.OneFrame.{gaining_run-at}
-use Rattle.can_hit.specs.declared.hit.Hit.{Hit}
+use Rattle.can_terms.specs.declared.hit.Hit.{Hit}
 use Rattle.can_bus.specs.declared.moment.Attempt.{Attempt}
 use Rattle.can_bus.specs.Course.{Transmission, IsNext, IsCourse, over, attempted, IsMade, course_at, hit_time, hits_made, keeping}
 use Rattle.can_bus.specs.Network.{AllOver}

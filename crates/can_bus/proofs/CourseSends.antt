@@ -8,7 +8,7 @@ use Rattle.can_frame.specs.Parts.{Parts}
 use Rattle.can_frame.specs.Arbitration.{arbitration_field}
 use Rattle.can_node.specs.Ports.{same_field}
 use Rattle.can_node.proofs.WaitingLemmas.{Shares-same_field, same_field-Shares}
-use Rattle.can_hit.specs.declared.hit.Hit.{Hit}
+use Rattle.can_terms.specs.declared.hit.Hit.{Hit}
 use Rattle.can_bus.specs.Course.{IsCourse, IsNext, Transmission, attempted, over}
 use Rattle.can_bus.specs.CourseWaiting.{IsSentBy, of_field, sends_of}
 use Rattle.can_bus.specs.Timed.{TimedParts, Lists, without_offer}

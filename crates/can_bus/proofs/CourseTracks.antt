@@ -15,7 +15,7 @@ use Rattle.can_wire.specs.Layout.{level_at}
 use Rattle.can_mac.specs.Frames.{with_intermission}
 use Rattle.can_mac.proofs.FrameParts.{length-wire}
 use Rattle.can_mac.proofs.HitLevels.{IsHit}
-use Rattle.can_hit.specs.declared.hit.Hit.{Hit}
+use Rattle.can_terms.specs.declared.hit.Hit.{Hit}
 use Rattle.can_bus.specs.Course.{FallsInWindow, Transmission, IsCourse, over, attempted, IsMade, course_at, frames_sent, hit_time, keeping, left_by}
 use Rattle.can_bus.specs.RepairedLine.{attempt_levels, lateness, struck}
 use Rattle.can_bus.specs.Timed.{Lists, TimedParts, frames_of, without_offer}

@@ -8,7 +8,7 @@ use Rattle.can_frame.specs.Arbitration.{arbitration_field, field_cmp, Before}
 use Rattle.can_frame.proofs.FieldLemmas.{fields_ranked}
 use Rattle.can_node.specs.Ports.{is_equal, same_field}
 use Rattle.can_node.proofs.WaitingLemmas.{same_field-Shares, Shares-same_field}
-use Rattle.can_hit.specs.declared.hit.Hit.{Hit}
+use Rattle.can_terms.specs.declared.hit.Hit.{Hit}
 use Rattle.can_bus.specs.Course.{Transmission, IsNext, IsCourse, over, attempted, IsMade, keeping, left_by}
 use Rattle.can_bus.specs.CourseWaiting.{attempts_between, kept_times, left_on, of_field, sends_of, was_hit}
 use Rattle.can_bus.specs.Timed.{TimedParts, Lists, offered_by, without_offer}

@@ -6,10 +6,10 @@ use Rattle.std.proofs.lemmas.Bool.{cases_order}
 use Rattle.std.proofs.lemmas.Bool.Decides.{nat_tests}
 use Rattle.std.proofs.lemmas.List.Folds.{list_any_none}
 use Rattle.std.proofs.lemmas.Option.{slice_get-get_or, get_or_from_slice_get}
-use Rattle.can_hit.specs.declared.hit.Hit.{Hit}
-use Rattle.can_hit.specs.declared.hit.Hit.TheVariants.{At, In, View}
+use Rattle.can_terms.specs.declared.hit.Hit.{Hit}
+use Rattle.can_terms.specs.declared.hit.Hit.TheVariants.{At, In, View}
 use Rattle.can_bus.specs.declared.moment.Attempt.{Attempt}
-use Rattle.can_hit.specs.Hits.{is_above}
+use Rattle.can_terms.specs.Hits.{is_above}
 use Rattle.can_bus.specs.Run.{hits_wire, hits_view}
 use Rattle.can_bus.specs.Walks.{is_hit, HitsRise, AreBelow}
 use Rattle.can_bus.proofs.HitOrder.{above-transitive, above-other}

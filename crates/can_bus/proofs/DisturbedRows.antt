@@ -16,7 +16,7 @@ use Rattle.can_mac.specs.State.{idle}
 use Rattle.can_mac.specs.Moves.{agrees}
 use Rattle.can_mac.specs.Machine.{mac_drives, mac_step}
 use Rattle.can_node.specs.Ports.{PortState, fresh_port, port_offered, port_drives, port_step, waiting, without}
-use Rattle.can_hit.specs.declared.hit.Hit.TheVariants.{At, In}
+use Rattle.can_terms.specs.declared.hit.Hit.TheVariants.{At, In}
 use Rattle.can_bus.specs.declared.offer.Offer.{Offer}
 use Rattle.can_bus.specs.Disturbed.{level_then, rest_before, begins_at, attempts_before, FallsOnWire}
 use Rattle.can_bus.specs.DisturbedPlay.{played_then, refusals}

@@ -4,7 +4,7 @@ use Rattle.std.specs.List.{zip}
 use Rattle.std.proofs.Common.{◌≡◌, ℕ, ◌+◌, ◌<◌, ◌≤◌, List, [], ◌∷◌, Some, length, map, take, refl, ap, sym, ◌∙◌, subst}
 use Rattle.can_frame.specs.declared.level.Level.{Level}
 use Rattle.can_node.specs.Ports.{PortState, port_run, port_step}
-use Rattle.can_hit.specs.declared.hit.Hit.{Hit}
+use Rattle.can_terms.specs.declared.hit.Hit.{Hit}
 use Rattle.can_bus.specs.DisturbedPlay.{IsDisturbedPlay, IsDisturbedRun, WasDisturbed, WasPlayed, all_given, played_then, port_played}
 use Rattle.can_bus.specs.Offers.{call_after, call_refused}
 use Rattle.can_bus.specs.Run.{BusState, bus_level, bus_run}

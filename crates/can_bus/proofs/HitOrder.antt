@@ -1,9 +1,9 @@
 -- The order of hits.
 use Rattle.std.proofs.Common.{◌≡◌, ℕ, true, false, List, refl, arith}
 use Rattle.std.proofs.lemmas.Bool.Decides.{nat_tests}
-use Rattle.can_hit.specs.declared.hit.Hit.{Hit}
-use Rattle.can_hit.specs.declared.hit.Hit.TheVariants.{At, In, View}
-use Rattle.can_hit.specs.Hits.{is_pair_above, is_above, AreTaken}
+use Rattle.can_terms.specs.declared.hit.Hit.{Hit}
+use Rattle.can_terms.specs.declared.hit.Hit.TheVariants.{At, In, View}
+use Rattle.can_terms.specs.Hits.{is_pair_above, is_above, AreTaken}
 use Rattle.can_bus.specs.Walks.{is_hit, HitsRise}
 use Rattle.can_bus.proofs.CheckLemmas.{follows-each}
 

@@ -4,7 +4,7 @@ use Rattle.std.proofs.Common.{◌≡◌, ℕ, zero, suc, ◌+◌, ◌<◌, ◌�
 use Rattle.std.proofs.lemmas.List.{take_all}
 use Rattle.can_frame.specs.declared.level.Level.{Level}
 use Rattle.can_node.proofs.BrokenFrames.{seen_of}
-use Rattle.can_hit.specs.declared.hit.Hit.{Hit}
+use Rattle.can_terms.specs.declared.hit.Hit.{Hit}
 use Rattle.can_bus.specs.declared.moment.Attempt.{Attempt}
 use Rattle.can_bus.specs.Wired.{wired}
 use Rattle.can_bus.specs.Run.{inverted_if, rest_after}

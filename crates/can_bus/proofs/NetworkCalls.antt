@@ -9,13 +9,13 @@ use Rattle.can_node.specs.Ports.{PortState, IsPort}
 use Rattle.can_fault.specs.declared.state.State.TheVariants.{Active}
 use Rattle.can_fault.specs.Counters.{ConfineParts, state_of, is_bus_off, is_passive}
 use Rattle.can_node.proofs.Arrivals.{GainingPort}
-use Rattle.can_hit.specs.declared.hit.Hit.{Hit}
-use Rattle.can_hit.specs.declared.hit.Hit.TheVariants.{At, In, View}
+use Rattle.can_terms.specs.declared.hit.Hit.{Hit}
+use Rattle.can_terms.specs.declared.hit.Hit.TheVariants.{At, In, View}
 use Rattle.can_bus.specs.declared.offer.Offer.{Offer}
 use Rattle.can_bus.specs.Course.{AllEnded, Transmission, course_at, hits_made}
 use Rattle.can_bus.specs.Network.{AllCountAtMost, AllOver, CountsAtMost, IsNetworkCall, NetworkLogBegins, NetworkLogHas, NetworkLogWhole, NetworkTally, OnNetworkCall, RestsAgain, StaysActive}
 use Rattle.can_bus.specs.Offers.{call_after, call_level, call_refused, AreOffered, all_made}
-use Rattle.can_hit.specs.Hits.{AreTaken}
+use Rattle.can_terms.specs.Hits.{AreTaken}
 use Rattle.can_bus.proofs.RepairedCalls.{taken-attempts}
 use Rattle.can_bus.specs.Quiet.{AtEachNode, AtEachPort, CountsNothing, MissesNothing}
 use Rattle.can_bus.specs.Run.{BusState}

@@ -7,7 +7,7 @@ use Rattle.can_frame.specs.Parts.{Parts}
 use Rattle.can_node.specs.Ports.{PortState}
 use Rattle.can_node.specs.Waiting.{IsWaiting}
 use Rattle.can_node.proofs.WaitingLaws.{waiting-IsWaiting}
-use Rattle.can_hit.specs.declared.hit.Hit.{Hit}
+use Rattle.can_terms.specs.declared.hit.Hit.{Hit}
 use Rattle.can_bus.specs.declared.offer.Offer.{Offer}
 use Rattle.can_bus.specs.Course.{FallsInWindow, HitInWindows, IsCourse, Transmission, attempt_of, attempted, course_from, course_of, hits_made, keeping, left_by, over}
 use Rattle.can_bus.specs.Network.{AllCountAtMost, CourseIsBorne, FieldsAreOwned, IsNetworkCall, port_tally}

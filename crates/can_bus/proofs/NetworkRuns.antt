@@ -3,7 +3,7 @@ use Rattle.std.proofs.Common.{◌≡◌, ℕ, zero, suc, ◌+◌, List, map, ref
 use Rattle.can_frame.specs.declared.level.Level.{Level}
 use Rattle.can_node.specs.Ports.{port_drives}
 use Rattle.can_node.proofs.Arrivals.{GainingPort, gaining_drives}
-use Rattle.can_hit.specs.declared.hit.Hit.{Hit}
+use Rattle.can_terms.specs.declared.hit.Hit.{Hit}
 use Rattle.can_bus.specs.declared.offer.Offer.{Offer}
 use Rattle.can_bus.specs.Wired.{wired}
 use Rattle.can_bus.specs.Run.{BusState, CallState, inverted_if, rest_after, attempt_now, recorded, bus_step}

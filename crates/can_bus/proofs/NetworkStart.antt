@@ -8,8 +8,8 @@ use Rattle.can_node.specs.Ports.{PortState, IsPort}
 use Rattle.can_node.proofs.Arrivals.{GainingPort, gaining, gains, arrived}
 use Rattle.can_node.proofs.FramesWaiting.{AreFrames, AreFrames-from}
 use Rattle.can_bus.specs.CourseWaiting.{of_field}
-use Rattle.can_hit.specs.declared.hit.Hit.{Hit}
-use Rattle.can_hit.specs.declared.hit.Hit.TheVariants.{At, In, View}
+use Rattle.can_terms.specs.declared.hit.Hit.{Hit}
+use Rattle.can_terms.specs.declared.hit.Hit.TheVariants.{At, In, View}
 use Rattle.can_bus.specs.declared.offer.Offer.{Offer}
 use Rattle.can_bus.specs.Course.{Transmission, course_tally}
 use Rattle.can_bus.specs.Attempts.{AreInAttempts, AreApart, IsLow, Tally, tallied}

@@ -2,7 +2,7 @@
 use Rattle.std.proofs.Common.{◌≡◌, ℕ, ◌≤◌, List, [], refl, sym, ap, subst, ◌∙◌, arith}
 use Rattle.can_frame.specs.Parts.{Parts}
 use Rattle.can_node.specs.Ports.{IsPort}
-use Rattle.can_hit.specs.declared.hit.Hit.{Hit}
+use Rattle.can_terms.specs.declared.hit.Hit.{Hit}
 use Rattle.can_bus.specs.Quiet.{AtEachPort, CountsNothing, IsQuietCall, LogsBegin, LogsWhole, MissesNothing, line_at, span}
 use Rattle.can_bus.specs.Repair.{IsRepairedCall}
 use Rattle.can_bus.specs.Run.{BusState, bus_level, bus_run, new_bus}

@@ -11,7 +11,7 @@ use Rattle.can_wire.specs.Crc.{crc_of}
 use Rattle.can_wire.specs.Stuffing.{stuffed}
 use Rattle.can_wire.specs.Wire.{head, unstuffed, stuffed_part}
 use Rattle.can_wire.specs.Layout.{frame_len}
-use Rattle.can_hit.specs.declared.hit.Hit.TheVariants.{In}
+use Rattle.can_terms.specs.declared.hit.Hit.TheVariants.{In}
 use Rattle.can_bus.specs.Repair.{course_levels, repaired_course}
 use Rattle.can_bus.specs.RepairedLine.{lateness}
 

@@ -13,9 +13,9 @@ use Rattle.can_wire.specs.Stuffing.{kept}
 use Rattle.can_wire.specs.Wire.{reserved, head, unstuffed, stuffed_part, wire}
 use Rattle.can_wire.proofs.StuffingLemmas.{Stuffs-stuffed}
 use Rattle.can_mac.proofs.FrameParts.{length-wire}
-use Rattle.can_hit.specs.declared.hit.Hit.{Hit}
-use Rattle.can_hit.specs.declared.hit.Hit.TheVariants.{At, In, View}
-use Rattle.can_hit.specs.Hits.{AreTaken, is_above, hit_names_port}
+use Rattle.can_terms.specs.declared.hit.Hit.{Hit}
+use Rattle.can_terms.specs.declared.hit.Hit.TheVariants.{At, In, View}
+use Rattle.can_terms.specs.Hits.{AreTaken, is_above, hit_names_port}
 use Rattle.can_bus.specs.Run.{BusState}
 use Rattle.can_bus.specs.Quiet.{IsQuietCall, IsAscending, ascending, busy_time, span}
 use Rattle.can_bus.specs.Plans.{PlannedPort, IsQuietPlan, planned, ready_port}

@@ -4,7 +4,7 @@ use Rattle.std.proofs.Common.{◌≡◌, ℕ, ◌+◌, ◌≤◌, Some, None, Li
 use Rattle.std.proofs.lemmas.List.{append-nil, length-map}
 use Rattle.can_frame.specs.Parts.{Parts}
 use Rattle.can_node.specs.Ports.{PortState, IsPort}
-use Rattle.can_hit.specs.declared.hit.Hit.{Hit}
+use Rattle.can_terms.specs.declared.hit.Hit.{Hit}
 use Rattle.can_bus.specs.Course.{AllEnded, Transmission, course_at, course_tally, frames_sent}
 use Rattle.can_bus.specs.Network.{AllCountAtMost, IsFit, IsNetworkCall, port_tally}
 use Rattle.can_bus.specs.Offers.{call_after}

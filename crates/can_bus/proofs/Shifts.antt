@@ -9,8 +9,8 @@ use Rattle.can_frame.specs.Parts.{Parts}
 use Rattle.can_node.specs.Ports.{IsAtRest, PortState, port_drives, port_step, same_field, with_offer}
 use Rattle.can_node.specs.Waiting.{IsWaiting}
 use Rattle.can_node.proofs.PortLemmas.{rests_recessive, rests_unchanged}
-use Rattle.can_hit.specs.declared.hit.Hit.{Hit}
-use Rattle.can_hit.specs.declared.hit.Hit.TheVariants.{At, In, View}
+use Rattle.can_terms.specs.declared.hit.Hit.{Hit}
+use Rattle.can_terms.specs.declared.hit.Hit.TheVariants.{At, In, View}
 use Rattle.can_bus.specs.declared.moment.Attempt.{Attempt}
 use Rattle.can_bus.specs.declared.offer.Offer.{Offer}
 use Rattle.can_bus.specs.Course.{IsCourse, IsNext, Transmission, attempted, keeping, left_by, over}

@@ -5,8 +5,8 @@ use Rattle.can_frame.specs.Arbitration.{arbitration_field}
 use Rattle.can_wire.specs.Crc.{crc_of}
 use Rattle.can_wire.specs.Stuffing.{stuffed}
 use Rattle.can_wire.specs.Wire.{head, unstuffed, stuffed_part, wire}
-use Rattle.can_hit.specs.declared.hit.Hit.{Hit}
-use Rattle.can_hit.specs.declared.hit.Hit.TheVariants.{In}
+use Rattle.can_terms.specs.declared.hit.Hit.{Hit}
+use Rattle.can_terms.specs.declared.hit.Hit.TheVariants.{In}
 use Rattle.can_bus.specs.Course.{course_tally}
 use Rattle.can_bus.specs.Quiet.{span}
 use Rattle.can_bus.specs.RepairedLine.{lateness}

@@ -24,4 +24,6 @@ frames_logged p = map (λ entry. entry.frame) p.log
 
 -- every log of one bus lists the same frames as every log of the other, in the same order
 abbrev pub LogsAgree : BusState → BusState → Type 0
-LogsAgree one other = (m n : ℕ) (p q : PortState) → slice_get one.ports m ≡ Some p → slice_get other.ports n ≡ Some q → frames_logged p ≡ frames_logged q
+LogsAgree one other =
+    (m n : ℕ) (p q : PortState) → slice_get one.ports m ≡ Some p → slice_get other.ports n ≡ Some q
+    → frames_logged p ≡ frames_logged q

@@ -7,8 +7,8 @@ use Rattle.can_wire.specs.Stuffing.{kept}
 use Rattle.can_wire.specs.Wire.{stuffed_part, wire}
 use Rattle.can_fault.specs.Counters.{fresh}
 use Rattle.can_mac.specs.Frames.{IsActive, slot_place}
-use Rattle.can_hit.specs.declared.hit.Hit.{Hit}
-use Rattle.can_hit.specs.declared.hit.Hit.TheVariants.{At, In, View}
+use Rattle.can_terms.specs.declared.hit.Hit.{Hit}
+use Rattle.can_terms.specs.declared.hit.Hit.TheVariants.{At, In, View}
 
 -- Hits.
 

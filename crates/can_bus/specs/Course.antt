@@ -8,7 +8,7 @@ use Rattle.can_frame.specs.Parts.{Parts}
 use Rattle.can_wire.specs.Wire.{wire}
 use Rattle.can_node.specs.Ports.{waiting}
 use Rattle.can_node.specs.Waiting.{IsWaiting}
-use Rattle.can_hit.specs.declared.hit.Hit.{Hit}
+use Rattle.can_terms.specs.declared.hit.Hit.{Hit}
 use Rattle.can_bus.specs.Quiet.{holds, busy_time}
 use Rattle.can_bus.specs.Attempts.{IsInWindow, Tally, hit_of, tallied}
 use Rattle.can_bus.specs.RepairedLine.{attempt_levels, lateness}
@@ -56,7 +56,8 @@ pub record IsNext (free : ℕ) (left : List TimedParts) (time : ℕ) (f : Parts)
 pub data IsCourse (hits : List Hit) : ℕ → ℕ → List TimedParts → List Transmission → Type 0 where
   over : (number free : ℕ) → IsCourse hits number free [] []
   attempted : (number free time : ℕ) (f : Parts) (hit : Option ℕ) (left : List TimedParts) (course : List Transmission) →
-      IsNext free left time f → hit_of hits number ≡ hit → FallsInWindow f hit → IsCourse hits (number + 1) (time + keeping f hit) (left_by f hit left) course →
+      IsNext free left time f → hit_of hits number ≡ hit → FallsInWindow f hit
+      → IsCourse hits (number + 1) (time + keeping f hit) (left_by f hit left) course →
       IsCourse hits number free left (record { time = time; frame = f; hit = hit } ∷ course)
 
 -- What follows from it.
@@ -126,7 +127,8 @@ course_from (suc count) hits number free (x ∷ others) =
     let left = x ∷ others in
     let time = max free (earliest x others) in
     let hit = hit_of hits number in
-    attempt_of (λ f. course_from count hits (number + 1) (time + keeping f hit) (left_by f hit left)) time hit (waiting (offered_by time left))
+    attempt_of (λ f. course_from count hits (number + 1) (time + keeping f hit) (left_by f hit left)) time hit
+    (waiting (offered_by time left))
 
 -- the course of all offers: at most one attempt for each offer, and one more for each hit
 unfoldable pub course_of : List Hit → List TimedParts → List Transmission

@@ -5,7 +5,7 @@ use Rattle.std.specs.List.{sum_by}
 use Rattle.can_frame.specs.Arbitration.{arbitration_field}
 use Rattle.can_frame.specs.Parts.{Parts}
 use Rattle.can_node.specs.Ports.{goes_before, same_field}
-use Rattle.can_hit.specs.declared.hit.Hit.{Hit}
+use Rattle.can_terms.specs.declared.hit.Hit.{Hit}
 use Rattle.can_bus.specs.Course.{IsCourse, Transmission, keeping, left_by}
 use Rattle.can_bus.specs.Quiet.{span}
 use Rattle.can_bus.specs.Timed.{TimedParts, frames_of}
@@ -51,7 +51,8 @@ sends_of f course = filter (λ s. same_field f s.frame && not (was_hit s.hit)) c
 
 -- The attempt s sends the offer at this place: if n offers of its field come before it in the list, n attempts that send a frame of the
 -- field come before s.
-pub record IsSentBy (offers : List TimedParts) (course : List Transmission) (place : ℕ) (offer : TimedParts) (s : Transmission) : Type 0 where
+pub record IsSentBy (offers : List TimedParts) (course : List Transmission) (place : ℕ) (offer : TimedParts)
+    (s : Transmission) : Type 0 where
   pub is_offer : slice_get offers place ≡ Some offer
   pub is_attempt : slice_get (sends_of offer.frame course) (length (of_field offer.frame (take place offers))) ≡ Some s
 
@@ -77,5 +78,7 @@ going_before offers course place offer start =
 
 -- what is claimed of each offer of a course, if the offers of each field are in order of time, and of the attempt that sends it
 abbrev pub OnWait : (List Hit → List TimedParts → List Transmission → ℕ → TimedParts → Transmission → Type 0) → Type 0
-OnWait Claim = (hits : List Hit) (offers : List TimedParts) (course : List Transmission) → IsCourse hits 0 0 offers course → AreInTime offers →
+OnWait Claim =
+    (hits : List Hit) (offers : List TimedParts) (course : List Transmission) → IsCourse hits 0 0 offers course
+    → AreInTime offers →
     (place : ℕ) (offer : TimedParts) (s : Transmission) → IsSentBy offers course place offer s → Claim hits offers course place offer s

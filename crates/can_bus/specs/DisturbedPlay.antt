@@ -5,8 +5,8 @@ use Rattle.can_frame.specs.declared.level.Level.{Level}
 use Rattle.can_frame.specs.Levels.{opposite}
 use Rattle.can_frame.specs.IdleRow.{idle_row}
 use Rattle.can_node.specs.Ports.{PortState, port_drives, port_step, with_offer}
-use Rattle.can_hit.specs.declared.hit.Hit.{Hit}
-use Rattle.can_hit.specs.declared.hit.Hit.TheVariants.{View}
+use Rattle.can_terms.specs.declared.hit.Hit.{Hit}
+use Rattle.can_terms.specs.declared.hit.Hit.TheVariants.{View}
 use Rattle.can_bus.specs.declared.offer.Offer.{Offer}
 use Rattle.can_bus.specs.Disturbed.{FallsOnWire, level_then, rest_before}
 use Rattle.can_bus.specs.Offers.{is_full}
@@ -32,13 +32,15 @@ all_given offers t node (p ∷ ports) = given offers t node p ∷ all_given offe
 abbrev pub played_then : List Offer → ℕ → ℕ → List PortState → List (List Level) → List PortState
 played_then offers t node [] seen = []
 played_then offers t node (p ∷ ports) [] = []
-played_then offers t node (p ∷ ports) (levels ∷ seen) = port_played offers 0 node p (take t levels) ∷ played_then offers t (node + 1) ports seen
+played_then offers t node (p ∷ ports) (levels ∷ seen) =
+    port_played offers 0 node p (take t levels) ∷ played_then offers t (node + 1) ports seen
 
 -- for a run of this many bit times, and the levels that its ports sample
 module _ (offers : List Offer) (ports : List PortState) (seen : List (List Level)) (bits : ℕ) where
   -- the offer after these is refused: it is made, and the queue of its port is full after the earlier ones
   abbrev pub is_refused : List Offer → Offer → Bool
-  is_refused earlier offer = nat_lt offer.time bits && is_full offer.node (all_given earlier offer.time 0 (played_then offers offer.time 0 ports seen))
+  is_refused earlier offer = nat_lt offer.time bits
+      && is_full offer.node (all_given earlier offer.time 0 (played_then offers offer.time 0 ports seen))
 
   -- the number of refused offers among these, one after another
   abbrev pub refusals : List Offer → List Offer → ℕ
@@ -53,11 +55,14 @@ module _ (offers : List Offer) (ports : List PortState) (seen : List (List Level
 -- - `leads`: the final state of each port follows from its offers and the levels that it samples.
 -- - `keeps_rest`: the bus keeps the number of recessive levels recorded last, at most eleven.
 -- - `refuses`: this many offers find a full queue.
-pub record IsDisturbedPlay (offers : List Offer) (hits : List Hit) (before : BusState) (wired recorded : List Level) (seen : List (List Level)) (after : BusState) (refused : ℕ) : Type 0 where
+pub record IsDisturbedPlay (offers : List Offer) (hits : List Hit) (before : BusState) (wired recorded : List Level)
+    (seen : List (List Level)) (after : BusState) (refused : ℕ) : Type 0 where
   pub long : length wired ≡ length recorded
   pub seen_long : All (λ levels. length levels ≡ length recorded) seen
   pub each_port : length seen ≡ length before.ports
-  pub drives : (t : ℕ) → t < length recorded → level_then wired t ≡ wired_of (map port_drives (all_given offers t 0 (played_then offers t 0 before.ports seen)))
+  pub drives : (t : ℕ) → t < length recorded
+      → level_then wired t ≡ wired_of
+      (map port_drives (all_given offers t 0 (played_then offers t 0 before.ports seen)))
   pub records : (t : ℕ) → t < length recorded →
       (level_then recorded t ≡ opposite (level_then wired t)) ↔ Any (λ hit. FallsOnWire before.rest wired recorded hit t) hits
   pub sees : (port t : ℕ) (levels : List Level) → slice_get seen port ≡ Some levels → t < length recorded →

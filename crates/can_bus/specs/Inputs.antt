@@ -1,8 +1,8 @@
 -- What is wrong with a list that a call takes. (docs/BUS.md, "Refusals")
 use Rattle.std.specs.Prelude.{ℕ, ◌≡◌, Bool, false, List, take, Some, slice_get}
-use Rattle.can_hit.specs.declared.hit.Hit.{Hit}
-use Rattle.can_hit.specs.Hits.{hit_names_port, is_above}
-use Rattle.can_hit.specs.Sound.{AreSound, FollowsLast}
+use Rattle.can_terms.specs.declared.hit.Hit.{Hit}
+use Rattle.can_terms.specs.Hits.{hit_names_port, is_above}
+use Rattle.can_terms.specs.Sound.{AreSound, FollowsLast}
 use Rattle.can_bus.specs.declared.fault.BusFault.{BusFault}
 use Rattle.can_bus.specs.declared.fault.BusFault.TheVariants.{NoPort, TooManyPorts, NotRising, NoSuchPort}
 

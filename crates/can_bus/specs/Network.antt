@@ -7,7 +7,7 @@ use Rattle.can_fault.specs.declared.state.State.TheVariants.{Active}
 use Rattle.can_fault.specs.Counters.{state_of}
 use Rattle.can_mac.specs.declared.phase.Phase.TheVariants.{Idle}
 use Rattle.can_node.specs.Ports.{PortState}
-use Rattle.can_hit.specs.declared.hit.Hit.{Hit}
+use Rattle.can_terms.specs.declared.hit.Hit.{Hit}
 use Rattle.can_bus.specs.declared.offer.Offer.{Offer}
 use Rattle.can_bus.specs.Course.{IsCourse, IsMade, Transmission, course_tally, ended_by, frames_sent, keeping}
 use Rattle.can_bus.specs.Offers.{AreOffered}
@@ -32,7 +32,8 @@ pub record IsFit (entries : ℕ) (p : PortState) : Type 0 where
 -- each arbitration field belongs to one port: no two ports have frames with the same field to send
 abbrev pub FieldsAreOwned : List Offer → List PortState → Type 0
 FieldsAreOwned offers ports = (m n : ℕ) (p q : PortState) → m < n → slice_get ports m ≡ Some p → slice_get ports n ≡ Some q →
-    (x y : TimedParts) → Lists (own_offers offers m p) x → Lists (own_offers offers n q) y → arbitration_field x.frame ≢ arbitration_field y.frame
+    (x y : TimedParts) → Lists (own_offers offers m p) x → Lists (own_offers offers n q) y
+    → arbitration_field x.frame ≢ arbitration_field y.frame
 
 -- the tally of each port is that of an error active one after each attempt
 abbrev pub CourseIsBorne : List Offer → List PortState → List Transmission → Type 0
@@ -69,7 +70,8 @@ NetworkLogBegins offers course node p q = IsPrefixOf q.log (p.log ++ marked (fra
 
 -- the log has each frame whose wire has ended by this time
 abbrev pub NetworkLogHas : List Offer → List Transmission → ℕ → ℕ → PortState → PortState → Type 0
-NetworkLogHas offers course t node p q = IsPrefixOf (p.log ++ marked (frames_of (own_offers offers node p)) (frames_sent (ended_by t course))) q.log
+NetworkLogHas offers course t node p q =
+    IsPrefixOf (p.log ++ marked (frames_of (own_offers offers node p)) (frames_sent (ended_by t course))) q.log
 
 -- the log has all frames that are sent
 abbrev pub NetworkLogWhole : List Offer → List Transmission → ℕ → PortState → PortState → Type 0
@@ -114,11 +116,13 @@ pub record RestsAgain (before after : BusState) : Type 0 where
 
 -- What is required of the next call, after one with these offers and this course: of its offers and hits, and of the ports as they were
 -- before the first.
-pub record IsNextCall (offers : List Offer) (course : List Transmission) (ports : List PortState) (next : List Offer) (hits : List Hit) (behind : List Transmission) : Type 0 where
+pub record IsNextCall (offers : List Offer) (course : List Transmission) (ports : List PortState) (next : List Offer)
+    (hits : List Hit) (behind : List Transmission) : Type 0 where
   pub offered : AreOffered (length ports) next
   pub logs : (n : ℕ) (p : PortState) → slice_get ports n ≡ Some p → length p.log + length (frames_sent course) + length next ≤ p.log_room
   pub room : (n : ℕ) (p : PortState) → slice_get ports n ≡ Some p → length (offered_to n next) ≤ p.queue_room
-  pub owned : (m n : ℕ) → m < n → (x y : TimedParts) → Lists (offered_to m next) x → Lists (offered_to n next) y → arbitration_field x.frame ≢ arbitration_field y.frame
+  pub owned : (m n : ℕ) → m < n → (x y : TimedParts) → Lists (offered_to m next) x → Lists (offered_to n next) y
+      → arbitration_field x.frame ≢ arbitration_field y.frame
   pub within : AreInAttempts hits
   pub apart : AreApart 1 hits
   pub is_course : IsCourse hits 0 0 (map timed next) behind

@@ -2,8 +2,8 @@
 use Rattle.std.specs.Prelude.{ℕ, ◌≡◌, ◌+◌, ◌<◌, ◌≤◌, ◌⊎◌, List, [], ◌∷◌, All, length, map, slice_get, Some}
 use Rattle.can_frame.specs.Parts.{Parts}
 use Rattle.can_node.specs.Ports.{PortState}
-use Rattle.can_hit.specs.declared.hit.Hit.{Hit}
-use Rattle.can_hit.specs.declared.hit.Hit.TheVariants.{In}
+use Rattle.can_terms.specs.declared.hit.Hit.{Hit}
+use Rattle.can_terms.specs.declared.hit.Hit.TheVariants.{In}
 use Rattle.can_bus.specs.declared.offer.Offer.{Offer}
 use Rattle.can_bus.specs.Course.{HitInWindows, Transmission, course_of}
 use Rattle.can_bus.specs.Attempts.{AreInAttempts, AreApart, IsInWindow}

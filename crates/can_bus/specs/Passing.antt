@@ -16,7 +16,10 @@ PassesFrom f p = IsPoised p.mac (waiting p.queue) (Some f)
 
 -- f may pass this port in one step, and the port receives it: f has priority over the frame with which the port starts, if there is one
 abbrev pub Receives : Parts → PortState → Type 0
-Receives f p = (next : Option Parts) × (IsPoised p.mac (waiting p.queue) next × ((g : Parts) → next ≡ Some g → Before (arbitration_field f) (arbitration_field g)))
+Receives f p =
+    (next : Option Parts)
+    × (IsPoised p.mac (waiting p.queue) next
+    × ((g : Parts) → next ≡ Some g → Before (arbitration_field f) (arbitration_field g)))
 
 -- the port receives f, or takes no part in it
 abbrev pub PassesBy : Parts → PortState → Type 0

@@ -11,11 +11,13 @@ use Rattle.can_mac.specs.declared.phase.Phase.TheVariants.{Idle}
 use Rattle.can_mac.specs.Frames.{with_intermission}
 use Rattle.can_node.specs.declared.entry.Entry.{Entry}
 use Rattle.can_node.specs.Ports.{PortState, goes_before, same_field}
-use Rattle.can_hit.specs.declared.hit.Hit.{Hit}
+use Rattle.can_terms.specs.declared.hit.Hit.{Hit}
 
 -- each earlier frame has higher priority than each later one
 abbrev pub IsRising : List Parts → Type 0
-IsRising frames = (m n : ℕ) (f g : Parts) → m < n → slice_get frames m ≡ Some f → slice_get frames n ≡ Some g → Before (arbitration_field f) (arbitration_field g)
+IsRising frames =
+    (m n : ℕ) (f g : Parts) → m < n → slice_get frames m ≡ Some f → slice_get frames n ≡ Some g
+    → Before (arbitration_field f) (arbitration_field g)
 
 -- the list of the waiting frames, each once, in priority order
 pub record IsAscending (waiting frames : List Parts) : Type 0 where

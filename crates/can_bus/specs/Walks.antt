@@ -1,12 +1,12 @@
 -- Walks along hits and offers in their order.
 use Rattle.std.specs.Prelude.{ℕ, ◌≡◌, ◌+◌, ◌-◌, ◌^◌, nat_lt, if◌then◌else◌, ◌<◌, ◌≤◌, ◌==◌, Bool, true, false, ◌&&◌, List, Option, Some, None, slice_get}
-use Rattle.can_hit.specs.declared.hit.Hit.{Hit}
-use Rattle.can_hit.specs.declared.hit.Hit.TheVariants.{At, In, View}
+use Rattle.can_terms.specs.declared.hit.Hit.{Hit}
+use Rattle.can_terms.specs.declared.hit.Hit.TheVariants.{At, In, View}
 use Rattle.can_bus.specs.declared.moment.Attempt.{Attempt}
 use Rattle.can_bus.specs.declared.offer.Offer.{Offer}
 use Rattle.can_bus.specs.declared.call.Call.{Call}
 use Rattle.can_bus.specs.declared.cursor.Cursor.{Cursor}
-use Rattle.can_hit.specs.Hits.{is_above}
+use Rattle.can_terms.specs.Hits.{is_above}
 use Rattle.std.specs.List.{list_any}
 use Rattle.can_bus.specs.Run.{BusState, CallState, hits_view, hits_wire}
 
@@ -89,7 +89,8 @@ abbrev pub until_in : Option Attempt → Option Hit → ℕ
 until_in None next = for_ever
 until_in (Some a) None = for_ever
 until_in (Some a) (Some (At t)) = 0
-until_in (Some a) (Some (In number offset)) = if nat_lt a.number number then for_ever else if nat_lt number a.number then 0 else offset - (a.offset + 1)
+until_in (Some a) (Some (In number offset)) =
+    if nat_lt a.number number then for_ever else if nat_lt number a.number then 0 else offset - (a.offset + 1)
 until_in (Some a) (Some (View t node)) = for_ever
 
 -- how many bit times pass before a hit on what a port samples

@@ -5,7 +5,7 @@ use Rattle.std.specs.List.{Any, list_any}
 use Rattle.can_frame.specs.declared.level.Level.{Level}
 use Rattle.can_frame.specs.Levels.{opposite}
 use Rattle.can_frame.specs.IdleRow.{idle_row}
-use Rattle.can_hit.specs.declared.hit.Hit.{Hit}
+use Rattle.can_terms.specs.declared.hit.Hit.{Hit}
 use Rattle.can_bus.specs.declared.moment.Attempt.{Attempt}
 use Rattle.can_bus.specs.Disturbed.{FallsOnWire, level_then}
 use Rattle.can_bus.specs.Run.{CallState, aged, begins_attempt, following, hits_view, hits_wire, inverted_if, rest_after}

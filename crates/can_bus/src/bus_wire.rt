@@ -8,7 +8,7 @@ ghost use Rattle.can_bus.specs.WireSteps.{IsWire, wire_attempt, wire_behind, wir
 use crate::bus::inverted_if;
 use crate::moment::{Attempt, attempt_now, rest_after};
 use can_frame::{IDLE_ROW, Level};
-use can_hit::Hit;
+use can_terms::Hit;
 use std::marker::Model;
 
 /// A bus line between two bit times: how many have passed, the latest attempt, and how many recessive levels were

@@ -5,7 +5,7 @@ ghost use Rattle.can_bus.specs.Walks.{AreBelow, HitsRise, IsCall, IsFreeFrom, Is
 
 use crate::cursor::Cursor;
 use crate::moment::{Attempt, following};
-use can_hit::Hit;
+use can_terms::Hit;
 
 /// The progress of a call: the bit time, the latest attempt, and how many hits of each kind have been passed.
 #[derive(Clone, Copy)]

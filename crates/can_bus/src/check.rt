@@ -1,14 +1,14 @@
 ghost use Rattle.std.specs.Prelude.{ℕ, Bool, ⊤, ◌≡◌, ◌↔◌, ◌⊎◌, ◌<◌, IsOk, IsTrue, IfErr, Some, length, slice_get};
 ghost use Rattle.can_frame.specs.Parts.{IsFrame};
-ghost use Rattle.can_hit.specs.Hits.{AreTaken, hit_names_port, is_above};
-ghost use Rattle.can_hit.specs.Sound.{AreSound, FollowsLast};
+ghost use Rattle.can_terms.specs.Hits.{AreTaken, hit_names_port, is_above};
+ghost use Rattle.can_terms.specs.Sound.{AreSound, FollowsLast};
 ghost use Rattle.can_bus.specs.declared.offer.Offer.{Offer as Asked};
 ghost use Rattle.can_bus.specs.Inputs.{IsFirstHitFault, IsFirstWrong};
 ghost use Rattle.can_bus.specs.Offers.{AreOffered, IsFirstOfferFault, is_no_earlier, offer_names_port};
 
 use crate::fault::BusFault;
 use crate::offer::Offer;
-use can_hit::Hit;
+use can_terms::Hit;
 
 /// An item of a list that a call of a bus takes.
 trait Input: Copy {

@@ -3,7 +3,7 @@ ghost use Rattle.std.specs.Prelude.{◌≡◌, ◌+◌, ◌<◌, ◌≤◌, ◌�
 ghost use Rattle.can_frame.specs.Arbitration.{Before, arbitration_field};
 ghost use Rattle.can_frame.specs.Parts.{IsFrame};
 ghost use Rattle.can_node.specs.Ports.{PortState};
-ghost use Rattle.can_hit.specs.declared.hit.Hit.{Hit as Disturbance};
+ghost use Rattle.can_terms.specs.declared.hit.Hit.{Hit as Disturbance};
 ghost use Rattle.can_bus.specs.declared.offer.Offer.{Offer};
 ghost use Rattle.can_bus.specs.Course.{HitInWindows, IsCourse, IsMade, Transmission, course_of, keeping};
 ghost use Rattle.can_bus.specs.Schedule.{unhit, schedule, starts_between};

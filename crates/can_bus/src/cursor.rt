@@ -2,7 +2,7 @@ ghost use Rattle.std.specs.Prelude.{◌≡◌, ◌<◌, IsTrue, slice_get};
 ghost use Rattle.std.specs.List.{list_any};
 ghost use Rattle.can_bus.specs.Walks.{AreBelow, HitsRise, is_hit, until_view};
 
-use can_hit::Hit;
+use can_terms::Hit;
 use std::cmp::Ordering;
 
 /// A place in a list of hits, for a walk in their order.

@@ -12,10 +12,10 @@ ghost use Rattle.can_code.specs.Front.{first_front, heard_levels};
 ghost use Rattle.can_wire.specs.Stuffing.{is_stuff_place};
 ghost use Rattle.can_wire.specs.Wire.{stuffed_part, wire};
 ghost use Rattle.can_node.specs.Ports.{IsPort, PortState, port_run};
-ghost use Rattle.can_hit.specs.declared.hit.Hit.{Hit as Disturbance};
+ghost use Rattle.can_terms.specs.declared.hit.Hit.{Hit as Disturbance};
 ghost use Rattle.can_bus.specs.Agreement.{AreAlike, LogsAgree};
 ghost use Rattle.can_bus.specs.DisturbedPlay.{IsDisturbedRun, WasDisturbed, all_given, played_then};
-ghost use Rattle.can_hit.specs.Hits.{AreTaken, is_above};
+ghost use Rattle.can_terms.specs.Hits.{AreTaken, is_above};
 ghost use Rattle.can_bus.specs.Offers.{all_made, played, played_level};
 ghost use Rattle.can_bus.specs.declared.offer.Offer.{Offer as Asked};
 ghost use Rattle.can_bus.specs.Plans.{FitsQueue, IsQuietPlan, PlannedPort, planned, ready_port};
@@ -25,7 +25,7 @@ ghost use Rattle.can_bus.specs.Repair.{AreBorne, AreOfOnePort, FallInWindows, Is
 ghost use Rattle.can_bus.specs.RepairedLine.{lateness, refused_place, struck};
 ghost use Rattle.can_bus.specs.Run.{AreLevelsOf, BusState, bus_level, bus_run, new_bus};
 
-use can_hit::Hit;
+use can_terms::Hit;
 
 /// One hit is below another, by `<`, exactly if the other is above it.
 pub fn hits_are_ordered()

@@ -4,7 +4,7 @@ ghost use Rattle.can_frame.specs.declared.level.Level.{Level};
 ghost use Rattle.can_frame.specs.declared.level.Level.TheVariants.{Recessive};
 ghost use Rattle.can_frame.specs.Parts.{Parts};
 ghost use Rattle.can_frame.specs.IdleRow.{idle_row};
-ghost use Rattle.can_hit.specs.declared.hit.Hit.{Hit as Disturbance};
+ghost use Rattle.can_terms.specs.declared.hit.Hit.{Hit as Disturbance};
 ghost use Rattle.can_bus.specs.declared.offer.Offer.{Offer};
 ghost use Rattle.can_bus.specs.Course.{Transmission};
 ghost use Rattle.can_bus.specs.DisturbedPlay.{IsDisturbedPlay, WasPlayed};

@@ -2,7 +2,7 @@
 ghost use Rattle.std.specs.Prelude.{◌≡◌, ◌≤◌, ◌↔◌, ℕ, List, Some, length, slice_get};
 ghost use Rattle.can_frame.specs.declared.level.Level.{Level};
 ghost use Rattle.can_frame.specs.IdleRow.{idle_row};
-ghost use Rattle.can_hit.specs.declared.hit.Hit.{Hit as Disturbance};
+ghost use Rattle.can_terms.specs.declared.hit.Hit.{Hit as Disturbance};
 ghost use Rattle.can_bus.specs.declared.offer.Offer.{Offer};
 ghost use Rattle.can_bus.specs.DisturbedPlay.{IsDisturbedPlay};
 ghost use Rattle.can_bus.specs.Run.{AreLevelsOf, BusState, CallState, bus_step, recorded as recorded_by, wired_level};

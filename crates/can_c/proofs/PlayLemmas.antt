@@ -10,8 +10,8 @@ use Rattle.can_frame.specs.declared.level.Level.TheVariants.{Dominant, Recessive
 use Rattle.can_frame.specs.Ident.{ident_count}
 use Rattle.can_frame.specs.Levels.{level_code, levels_of_codes}
 use Rattle.can_node.specs.Ports.{PortState}
-use Rattle.can_hit.specs.declared.hit.Hit.{Hit}
-use Rattle.can_hit.specs.Hits.{AreTaken}
+use Rattle.can_terms.specs.declared.hit.Hit.{Hit}
+use Rattle.can_terms.specs.Hits.{AreTaken}
 use Rattle.can_bus.specs.declared.fault.BusFault.{BusFault}
 use Rattle.can_bus.specs.declared.fault.BusFault.TheVariants as bus
 use Rattle.can_bus.specs.declared.offer.Offer.{Offer}

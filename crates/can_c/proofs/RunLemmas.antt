@@ -3,7 +3,7 @@ use Rattle.std.proofs.Common.{◌≡◌, ℕ, ◌+◌, ◌<◌, ◌≤◌, List,
 use Rattle.std.proofs.lemmas.List.{append-nil, append_assoc, drop_all, drop_more, take_all, take_more_set}
 use Rattle.can_frame.specs.declared.level.Level.{Level}
 use Rattle.can_frame.specs.Levels.{level_of, level_code, levels_of_codes}
-use Rattle.can_mac.specs.Codes.{event_code}
+use Rattle.can_terms.specs.Codes.{event_code}
 use Rattle.can_node.specs.Ports.{PortState, port_drives, port_event, port_events, port_run, port_step}
 use Rattle.can_c.specs.BitTimes.{drives_over}
 

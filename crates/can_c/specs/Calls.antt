@@ -39,7 +39,8 @@ abbrev pub run_status : Option PortState → List ℕ → List ℕ → List ℕ 
 run_status None levels drives events = NoPort
 run_status (Some p) levels drives events =
     if length levels == 0 then NoLevels
-    else if length drives == length levels then (if length events == length levels then (if are_level_codes levels then Done else BadLevel) else NoRoom)
+    else if length drives == length levels
+    then (if length events == length levels then (if are_level_codes levels then Done else BadLevel) else NoRoom)
     else NoRoom
 
 -- the status of reading the entry of the log with this number, counted from 0
@@ -49,4 +50,5 @@ entry_status (Some p) number = if nat_lt number (length p.log) then Done else No
 
 -- the status of encoding a frame into a list of this length
 abbrev pub encode_status : PlainFrame → List ℕ → Status
-encode_status frame levels = unwrap_or (refusal frame) (if nat_le (length (driven (frame_of_plain frame))) (length levels) then Done else NoRoom)
+encode_status frame levels =
+    unwrap_or (refusal frame) (if nat_le (length (driven (frame_of_plain frame))) (length levels) then Done else NoRoom)

@@ -26,7 +26,8 @@ ident_of_plain f = record { raw = f.identifier; extended = f.extended == 1 }
 
 -- the frame of plain fields
 abbrev pub frame_of_plain : PlainFrame → Parts
-frame_of_plain f = record { id = ident_of_plain f; remote = f.remote == 1; dlc = f.dlc; bytes = take (byte_count (f.remote == 1) f.dlc) f.bytes }
+frame_of_plain f =
+    record { id = ident_of_plain f; remote = f.remote == 1; dlc = f.dlc; bytes = take (byte_count (f.remote == 1) f.dlc) f.bytes }
 
 -- the plain fields of a frame: data bytes that it does not have are 0
 abbrev pub plain_frame : Parts → PlainFrame

@@ -1,8 +1,8 @@
 -- Offers and hits as plain fields for C. (docs/BUS.md, "Disturbances" and "Frames offered while the bus runs")
 use Rattle.std.specs.Prelude.{◌==◌, nat_lt, if◌then◌else◌, List, [], ◌∷◌, map, Option, Some, None}
 use Rattle.std.specs.Option.{option_or}
-use Rattle.can_hit.specs.declared.hit.Hit.{Hit}
-use Rattle.can_hit.specs.declared.hit.Hit.TheVariants.{At, In, View}
+use Rattle.can_terms.specs.declared.hit.Hit.{Hit}
+use Rattle.can_terms.specs.declared.hit.Hit.TheVariants.{At, In, View}
 use Rattle.can_bus.specs.declared.offer.Offer.{Offer}
 use Rattle.can_c.specs.declared.inputs.PlainHit.{PlainHit}
 use Rattle.can_c.specs.declared.inputs.PlainOffer.{PlainOffer}

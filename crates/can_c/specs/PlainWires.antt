@@ -40,4 +40,5 @@ struck_refusal count h = if nat_lt 2 h.kind then Some BadKind else if (h.kind ==
 -- the status of one bit time of a wire
 abbrev pub wire_status : PlainWire → List ℕ → List PlainHit → Status
 wire_status w drives hits =
-    if is_wire w then (if are_level_codes drives then unwrap_or (first_reason (struck_refusal (length drives)) hits) Done else BadLevel) else BadWire
+    if is_wire w
+    then (if are_level_codes drives then unwrap_or (first_reason (struck_refusal (length drives)) hits) Done else BadLevel) else BadWire

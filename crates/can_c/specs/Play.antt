@@ -4,8 +4,8 @@ use Rattle.std.specs.Option.{option_or}
 use Rattle.can_frame.specs.declared.level.Level.{Level}
 use Rattle.can_frame.specs.Levels.{level_code}
 use Rattle.can_node.specs.Ports.{PortState}
-use Rattle.can_hit.specs.declared.hit.Hit.{Hit}
-use Rattle.can_hit.specs.Hits.{AreTaken}
+use Rattle.can_terms.specs.declared.hit.Hit.{Hit}
+use Rattle.can_terms.specs.Hits.{AreTaken}
 use Rattle.can_bus.specs.declared.fault.BusFault.{BusFault}
 use Rattle.can_bus.specs.declared.offer.Offer.{Offer}
 use Rattle.can_bus.specs.Course.{AllEnded, Transmission, course_at, hits_made}
@@ -81,7 +81,8 @@ pub record IsPlayCall (held : List (Option PortState)) (offers : List PlainOffer
 -- ---- a network
 
 -- what such a call records on a network whose attempts are this course, and the states in which it leaves the ports
-pub record IsNetworkRun (offers : List Offer) (course : List Transmission) (recorded : List Level) (before after : List PortState) : Type 0 where
+pub record IsNetworkRun (offers : List Offer) (course : List Transmission) (recorded : List Level)
+    (before after : List PortState) : Type 0 where
   pub levels : AreLevelsOf (course_at course) recorded
   pub logs : AtEachNode (NetworkLogBegins offers course) before after
   pub has : AtEachNode (NetworkLogHas offers course (length recorded)) before after

@@ -1,18 +1,17 @@
 ghost use Rattle.std.specs.Prelude.{◌≡◌, ◌≢◌, Some, IfSome, length, map, option_map};
 ghost use Rattle.can_frame.specs.Levels.{level_of, level_code, levels_of_codes};
-ghost use Rattle.can_mac.specs.Codes.{event_code as event_code_of};
+ghost use Rattle.can_terms.specs.Codes.{event_code};
 ghost use Rattle.can_node.specs.Ports.{port_drives, port_event, port_events, port_run, port_step};
 ghost use Rattle.can_c.specs.BitTimes.{drives_over, told_frame};
 ghost use Rattle.can_c.specs.Calls.{port_status, run_status, sample_status};
 ghost use Rattle.can_c.specs.Statuses.{done, status_code};
 
-use crate::codes::event_code;
 use crate::controller::Controller;
 use crate::handle::{Handle, with_port};
 use crate::plain::PlainFrame;
 use crate::status::Status;
 use can_frame::Level;
-use can_mac::Event;
+use can_terms::Event;
 use std::alloc::Global;
 
 /// Writes the level that the port drives in this bit time. The port does not change.
@@ -42,7 +41,7 @@ pub extern "C" fn can_c_sample(
 ) -> u8
     ensures status { result ≡ status_code (sample_status handle.old.held level) }
     ensures step { result ≡ done → handle.new.held ≡ option_map (λ p. port_step p (level_of level)) handle.old.held }
-    ensures event { result ≡ done → IfSome handle.old.held (λ p. event.new ≡ event_code_of (port_event p (level_of level))) }
+    ensures event { result ≡ done → IfSome handle.old.held (λ p. event.new ≡ event_code (port_event p (level_of level))) }
     ensures frame { result ≡ done → IfSome handle.old.held (λ p. frame.new ≡ told_frame (port_event p (level_of level)) frame.old) }
     ensures unchanged { result ≢ done → handle.new.held ≡ handle.old.held }
     ensures unwritten { result ≢ done → (event.new ≡ event.old) × (frame.new ≡ frame.old) }
@@ -56,7 +55,7 @@ pub extern "C" fn can_c_sample(
 fn sample_code(port: &mut Controller, level: u8, event: &mut u8, frame: &mut PlainFrame) -> Status
     ensures status { result ≡ sample_status (Some port.old) level }
     ensures step { result ≡ Status.Done → port.new ≡ port_step port.old (level_of level) }
-    ensures event { result ≡ Status.Done → event.new ≡ event_code_of (port_event port.old (level_of level)) }
+    ensures event { result ≡ Status.Done → event.new ≡ event_code (port_event port.old (level_of level)) }
     ensures frame { result ≡ Status.Done → frame.new ≡ told_frame (port_event port.old (level_of level)) frame.old }
     ensures unchanged { result ≢ Status.Done → port.new ≡ port.old }
     ensures unwritten { result ≢ Status.Done → (event.new ≡ event.old) × (frame.new ≡ frame.old) }
@@ -65,7 +64,7 @@ fn sample_code(port: &mut Controller, level: u8, event: &mut u8, frame: &mut Pla
         return Status::BadLevel;
     }
     let told = port.sample(Level::from_code(level));
-    *event = event_code(&told);
+    *event = Event::code_of(&told);
     tell(&told, frame);
     Status::Done
 }
@@ -97,7 +96,7 @@ pub extern "C" fn can_c_run(
     ensures status { result ≡ status_code (run_status handle.old.held levels.now drives.old events.old) }
     ensures run { result ≡ done → handle.new.held ≡ option_map (λ p. port_run p (levels_of_codes levels.now)) handle.old.held }
     ensures drives { result ≡ done → IfSome handle.old.held (λ p. drives.new ≡ map level_code (drives_over p (levels_of_codes levels.now))) }
-    ensures events { result ≡ done → IfSome handle.old.held (λ p. events.new ≡ map event_code_of (port_events p (levels_of_codes levels.now))) }
+    ensures events { result ≡ done → IfSome handle.old.held (λ p. events.new ≡ map event_code (port_events p (levels_of_codes levels.now))) }
     ensures unchanged { result ≢ done → handle.new.held ≡ handle.old.held }
     ensures unwritten { result ≢ done → (drives.new ≡ drives.old) × (events.new ≡ events.old) }
 {
@@ -111,7 +110,7 @@ fn run_codes(port: &mut Controller, levels: &[u8], drives: &mut [u8], events: &m
     ensures status { result ≡ run_status (Some port.old) levels.now drives.old events.old }
     ensures run { result ≡ Status.Done → port.new ≡ port_run port.old (levels_of_codes levels.now) }
     ensures drives { result ≡ Status.Done → drives.new ≡ map level_code (drives_over port.old (levels_of_codes levels.now)) }
-    ensures events { result ≡ Status.Done → events.new ≡ map event_code_of (port_events port.old (levels_of_codes levels.now)) }
+    ensures events { result ≡ Status.Done → events.new ≡ map event_code (port_events port.old (levels_of_codes levels.now)) }
     ensures unchanged { result ≢ Status.Done → port.new ≡ port.old }
     ensures unwritten { result ≢ Status.Done → (drives.new ≡ drives.old) × (events.new ≡ events.old) }
 {
@@ -134,10 +133,10 @@ fn run_each(port: &mut Controller, levels: &[u8], drives: &mut [u8], events: &mu
     requires events { length events.old ≡ length levels.now }
     ensures run { port.new ≡ port_run port.old (levels_of_codes levels.now) }
     ensures drives { drives.new ≡ map level_code (drives_over port.old (levels_of_codes levels.now)) }
-    ensures events { events.new ≡ map event_code_of (port_events port.old (levels_of_codes levels.now)) }
+    ensures events { events.new ≡ map event_code (port_events port.old (levels_of_codes levels.now)) }
 {
     for place in 0..levels.len() {
         drives[place] = port.drive().code();
-        events[place] = event_code(&port.sample(Level::from_code(levels[place])));
+        events[place] = Event::code_of(&port.sample(Level::from_code(levels[place])));
     }
 }

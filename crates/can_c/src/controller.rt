@@ -5,8 +5,9 @@ ghost use Rattle.can_node.specs.Ports.{fresh_port, port_offered, port_drives, po
 
 use can_fault::State;
 use can_frame::{Frame, Level};
-use can_mac::{Event, PackedMac};
+use can_mac::PackedMac;
 use can_node::{Entry, PackedNode, Port};
+use can_terms::Event;
 use std::alloc::{AllocError, Global};
 use std::marker::Model;
 use std::mem;

@@ -1,7 +1,7 @@
 //! A bus of ports that the caller keeps.
 ghost use Rattle.std.specs.Prelude.{◌≡◌, ◌≢◌, ◌≤◌, ◌⊎◌, ◌↔◌, None, Some, IfErr, IfOk, IsOk, IsSome, OnErr, OnOk, false, length, map, not};
 ghost use Rattle.can_frame.specs.Levels.{levels_of_codes};
-ghost use Rattle.can_hit.specs.Hits.{AreTaken};
+ghost use Rattle.can_terms.specs.Hits.{AreTaken};
 ghost use Rattle.can_bus.specs.Network.{OnNetworkCall};
 ghost use Rattle.can_bus.specs.Offers.{call_after, call_level, call_refused, AreOffered};
 ghost use Rattle.can_bus.specs.Run.{AreLevelsOf, new_bus};

@@ -7,16 +7,17 @@ use Rattle.can_conform.specs.declared.judging.Difference.{Difference}
 use Rattle.can_conform.specs.declared.judging.Difference.TheVariants as difference
 use Rattle.can_conform.specs.declared.judging.Progress.{Progress}
 use Rattle.can_conform.specs.declared.moment.Moment.{Moment}
-use Rattle.can_conform.specs.declared.script.Script.{Script}
-use Rattle.can_conform.specs.declared.script.Start.{Start}
-use Rattle.can_conform.specs.declared.script.Start.TheVariants as start
+use Rattle.can_terms.specs.declared.script.Script.{Script}
+use Rattle.can_terms.specs.declared.script.Start.{Start}
+use Rattle.can_terms.specs.declared.script.Start.TheVariants as start
 use Rattle.can_conform.specs.declared.standing.Rule.{Rule}
-use Rattle.can_conform.specs.declared.timed.Timed.{Timed}
-use Rattle.can_conform.specs.declared.transcript.Transcript.{Transcript}
+use Rattle.can_terms.specs.declared.timed.Timed.{Timed}
+use Rattle.can_terms.specs.declared.transcript.Transcript.{Transcript}
 use Rattle.can_node.specs.Ports.{PortState}
-use Rattle.can_mac.specs.declared.event.Event.{Event}
+use Rattle.can_terms.specs.declared.event.Event.{Event}
 use Rattle.can_conform.specs.Runs.{before, counters_of, moment_at, started}
-use Rattle.can_conform.specs.Transcripts.{no_counts, item_at, told_before, AgreesAt, AreRising, EndBefore, IsTold}
+use Rattle.can_terms.specs.Cases.{AreRising, EndBefore, IsTold}
+use Rattle.can_conform.specs.Transcripts.{no_counts, item_at, told_before, AgreesAt}
 use Rattle.can_conform.specs.Verdicts.{IsDifference}
 use Rattle.can_conform.specs.Walks.{HasReached, HasWalked, IsDifferenceAt, IsStanding}
 use Rattle.can_conform.proofs.RunLemmas.{before-first, before-past, event-past, level-past, rule-past, since-past}

@@ -4,7 +4,7 @@ use Rattle.std.proofs.Common.{◌≡◌, ℕ, zero, suc, ◌+◌, ◌<◌, ◌�
 use Rattle.std.proofs.lemmas.Bool.{cases_order}
 use Rattle.std.proofs.lemmas.Option.{slice_get_past}
 use Rattle.can_frame.specs.declared.level.Level.{Level}
-use Rattle.can_conform.specs.declared.script.Script.{Script}
+use Rattle.can_terms.specs.declared.script.Script.{Script}
 use Rattle.can_conform.specs.Runs.{moment_at}
 use Rattle.can_conform.proofs.RunLemmas.{level-past, level-within}
 

@@ -7,12 +7,13 @@ use Rattle.can_conform.specs.declared.judging.Failure.{Failure}
 use Rattle.can_conform.specs.declared.judging.Verdict.{Verdict}
 use Rattle.can_conform.specs.declared.judging.Verdict.TheVariants.{Pass, Fail}
 use Rattle.can_conform.specs.declared.moment.Moment.{Moment}
-use Rattle.can_conform.specs.declared.script.Script.{Script}
-use Rattle.can_conform.specs.declared.timed.Timed.{Timed}
-use Rattle.can_conform.specs.declared.transcript.Ending.{Ending}
-use Rattle.can_conform.specs.declared.transcript.Transcript.{Transcript}
+use Rattle.can_terms.specs.declared.script.Script.{Script}
+use Rattle.can_terms.specs.declared.timed.Timed.{Timed}
+use Rattle.can_terms.specs.declared.transcript.Ending.{Ending}
+use Rattle.can_terms.specs.declared.transcript.Transcript.{Transcript}
 use Rattle.can_conform.specs.Runs.{script_end, moment_at, standing_before}
-use Rattle.can_conform.specs.Transcripts.{no_counts, item_at, told_before, Agrees, AgreesAt, EndBefore, IsTold}
+use Rattle.can_terms.specs.Cases.{EndBefore, IsTold}
+use Rattle.can_conform.specs.Transcripts.{no_counts, item_at, told_before, Agrees, AgreesAt}
 use Rattle.can_conform.specs.Verdicts.{IsFirst, IsVerdict}
 use Rattle.can_conform.specs.Walks.{IsDifferenceAt}
 use Rattle.can_conform.proofs.AgreementLemmas.{agrees-all, agrees-more, difference-is, some-map}

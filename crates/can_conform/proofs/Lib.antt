@@ -1,5 +1,4 @@
 pub mod TimedLemmas
-pub mod RisingLemmas
 pub mod Growing
 pub mod RunLemmas
 pub mod OutlookLemmas

@@ -4,8 +4,8 @@ use Rattle.std.proofs.Common.{◌≡◌, ℕ, ◌+◌, ◌≤◌, Bool, true, fa
 use Rattle.std.proofs.lemmas.Bool.Decides.{Decides-eqb}
 use Rattle.can_node.specs.Ports.{PortState, with_offer}
 use Rattle.can_conform.specs.declared.outlook.Outlook.{Outlook}
-use Rattle.can_conform.specs.declared.script.Script.{Script}
-use Rattle.can_conform.specs.declared.timed.Timed.{Timed}
+use Rattle.can_terms.specs.declared.script.Script.{Script}
+use Rattle.can_terms.specs.declared.timed.Timed.{Timed}
 use Rattle.can_conform.specs.Runs.{all_handed, handed, wished}
 use Rattle.can_conform.specs.Walks.{AreMarked, Foresees, IsMarked, KeepsMarks}
 

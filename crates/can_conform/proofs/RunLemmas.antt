@@ -6,18 +6,20 @@ use Rattle.std.proofs.lemmas.Bool.Decides.{nat_tests}
 use Rattle.std.proofs.lemmas.Option.{slice_get_past, slice_get-get_or}
 use Rattle.can_frame.specs.declared.level.Level.{Level}
 use Rattle.can_frame.specs.declared.level.Level.TheVariants.{Recessive}
-use Rattle.can_mac.specs.declared.event.Event.{Event}
+use Rattle.can_terms.specs.declared.event.Event.{Event}
 use Rattle.can_node.specs.Ports.{PortState, port_drives}
 use Rattle.can_conform.specs.declared.moment.Moment.{Moment}
-use Rattle.can_conform.specs.declared.script.Script.{Script}
-use Rattle.can_conform.specs.declared.script.TesterLevel.{TesterLevel}
-use Rattle.can_conform.specs.declared.script.TesterLevel.TheVariants as tester
+use Rattle.can_terms.specs.declared.script.Script.{Script}
+use Rattle.can_terms.specs.declared.script.TesterLevel.{TesterLevel}
+use Rattle.can_terms.specs.declared.script.TesterLevel.TheVariants as tester
 use Rattle.can_conform.specs.declared.standing.Rule.{Rule}
-use Rattle.can_conform.specs.declared.timed.Timed.{Timed}
-use Rattle.can_conform.specs.declared.transcript.Counters.{Counters}
+use Rattle.can_terms.specs.declared.timed.Timed.{Timed}
+use Rattle.can_terms.specs.declared.transcript.Counters.{Counters}
 use Rattle.can_conform.specs.Transcripts.{changed_in, same_counters}
-use Rattle.can_conform.specs.Runs.{before, behind, counters_of, event_of, handed, last_event, driven_in, met, moment_at, next_rule, rule_before, seen_by, since_before, started, told_event}
-use Rattle.can_conform.specs.Standings.{phase_name, phase_rule, rule_after}
+use Rattle.can_terms.specs.Cases.{seen_by}
+use Rattle.can_conform.specs.Runs.{before, behind, counters_of, event_of, handed, last_event, driven_in, met, moment_at, next_rule, rule_before, since_before, started, told_event}
+use Rattle.can_mac.specs.State.{kind_of}
+use Rattle.can_conform.specs.Standings.{phase_rule, rule_after}
 
 -- ---- the first bit time
 
@@ -141,11 +143,11 @@ moment-still s t q none after =
 
 -- the rule after a bit time of the case, from what the port did in it
 pub rule-met : (s : Script) (t : ℕ) (x : TesterLevel) → slice_get s.tester.items t ≡ Some x →
-    rule_after (moment_at s t).event (phase_name (before s t).mac) (seen_by x (unwrap_or (moment_at s t).drove Recessive)) (before s (t + 1)).mac ≡ rule_before s (t + 1)
+    rule_after (moment_at s t).event (kind_of (before s t).mac) (seen_by x (unwrap_or (moment_at s t).drove Recessive)) (before s (t + 1)).mac ≡ rule_before s (t + 1)
 rule-met s t x here =
     let p = before s t in
-    let behind_it : Option TesterLevel → Rule = λ o. rule_after (event_of o s t p) (phase_name p.mac) (seen_by x (unwrap_or (driven_in o s t p) Recessive)) (behind o s t p).mac in
-    ap (λ q. rule_after (moment_at s t).event (phase_name p.mac) (seen_by x (unwrap_or (moment_at s t).drove Recessive)) q.mac) (before-more s t)
+    let behind_it : Option TesterLevel → Rule = λ o. rule_after (event_of o s t p) (kind_of p.mac) (seen_by x (unwrap_or (driven_in o s t p) Recessive)) (behind o s t p).mac in
+    ap (λ q. rule_after (moment_at s t).event (kind_of p.mac) (seen_by x (unwrap_or (moment_at s t).drove Recessive)) q.mac) (before-more s t)
     ∙ ap behind_it here
     ∙ sym (rule-more s t ∙ ap (λ o. next_rule o s t p (rule_before s t)) here)
 

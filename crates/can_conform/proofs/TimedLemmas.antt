@@ -4,8 +4,9 @@ use Rattle.std.proofs.Common.{◌≡◌, ◌≢◌, ℕ, zero, suc, ◌+◌, ◌
 use Rattle.std.proofs.lemmas.Bool.{cases_order}
 use Rattle.std.proofs.lemmas.Bool.Decides.{nat_tests}
 use Rattle.std.proofs.lemmas.Option.{slice_get_within}
-use Rattle.can_conform.specs.declared.timed.Timed.{Timed}
-use Rattle.can_conform.specs.Transcripts.{item_at, told_before, AreRising, EndBefore}
+use Rattle.can_terms.specs.declared.timed.Timed.{Timed}
+use Rattle.can_terms.specs.Cases.{AreRising, EndBefore}
+use Rattle.can_conform.specs.Transcripts.{item_at, told_before}
 use Rattle.can_conform.specs.Walks.{HasWalked}
 
 -- ---- the element of a time

@@ -3,12 +3,14 @@ use Rattle.std.specs.Prelude.{slice_get, unwrap_or, if◌then◌else◌, ◌&&�
 use Rattle.std.proofs.Common.{◌≡◌, ◌≢◌, ℕ, zero, suc, ◌+◌, ◌<◌, ◌≤◌, ◌==◌, Bool, true, false, List, [], ◌∷◌, Option, Some, None, length, refl, sym, ap, ◌∙◌, subst, inl, inr, arith}
 use Rattle.std.proofs.lemmas.Bool.{cases_order}
 use Rattle.std.proofs.lemmas.Bool.Decides.{nat_tests}
-use Rattle.can_conform.specs.declared.script.Script.{Script}
-use Rattle.can_conform.specs.declared.timed.Timed.{Timed}
-use Rattle.can_conform.specs.declared.transcript.Counters.{Counters}
-use Rattle.can_conform.specs.declared.transcript.Transcript.{Transcript}
+use Rattle.can_terms.specs.declared.script.Script.{Script}
+use Rattle.can_terms.specs.declared.timed.Timed.{Timed}
+use Rattle.can_terms.specs.declared.transcript.Counters.{Counters}
+use Rattle.can_terms.specs.declared.transcript.Transcript.{Transcript}
+use Rattle.can_terms.proofs.TimedLemmas.{timed-is}
 use Rattle.can_conform.specs.Runs.{before, counters_of, script_end, moment_at}
-use Rattle.can_conform.specs.Transcripts.{changed_in, changes_of, driven_upto, events_of, levels_of, no_counts, same_counters, item_at, told_before, told_upto, Agrees, AreRising, IsTranscript, Tells, TellsRun}
+use Rattle.can_terms.specs.Cases.{AreRising}
+use Rattle.can_conform.specs.Transcripts.{changed_in, changes_of, driven_upto, events_of, levels_of, no_counts, same_counters, item_at, told_before, told_upto, Agrees, IsTranscript, Tells, TellsRun}
 use Rattle.can_conform.proofs.AgreementLemmas.{counters-start}
 use Rattle.can_conform.proofs.Drives.{AreDriven, driven-all, driven-next, driven-none}
 use Rattle.can_conform.proofs.Growing.{IsToldUpTo, told-all, told-next, told-none}
@@ -82,10 +84,6 @@ same-rest x y xs ys one other time same t = elim (cases_order x.time t) [
     | inr more ↦ sym (told-rest x xs t (omega arith)) ∙ same t ∙ told-rest y ys t (omega arith)
   ]
 ]
-
-pub timed-is : {A : Type 0} (x y : Timed A) → x.time ≡ y.time → x.told ≡ y.told → x ≡ y
-timed-is {A} x y time told =
-    ap (λ k. let r : Timed A = record { time = k; told = x.told } in r) time ∙ ap (λ v. let r : Timed A = record { time = y.time; told = v } in r) told
 
 same-first : {A : Type 0} (x y : Timed A) (xs ys : List (Timed A)) → AreRising (x ∷ xs) → AreRising (y ∷ ys) → ((t : ℕ) → item_at (x ∷ xs) t ≡ item_at (y ∷ ys) t) → x ≡ y
 same-first x y xs ys one other same = elim (cases_order x.time y.time) [

@@ -3,31 +3,25 @@
 use Rattle.std.specs.Prelude.{ℕ, zero, suc, ◌+◌, ◌==◌, nat_le, if◌then◌else◌, List, [], ◌∷◌, length, Option, Some, None, slice_get}
 use Rattle.can_frame.specs.declared.level.Level.{Level}
 use Rattle.can_frame.specs.declared.level.Level.TheVariants.{Dominant, Recessive}
-use Rattle.can_mac.specs.declared.event.Event.{Event}
-use Rattle.can_mac.specs.State.{MacState, idle, joining}
+use Rattle.can_terms.specs.declared.event.Event.{Event}
+use Rattle.can_mac.specs.State.{MacState, idle, is_sender, joining, kind_of, place_of}
 use Rattle.can_fault.specs.Counters.{state_of}
 use Rattle.can_node.specs.Ports.{PortState, fresh_port, port_drives, port_event, port_holding, port_step, with_offer}
 use Rattle.can_conform.specs.declared.moment.Moment.{Moment}
-use Rattle.can_conform.specs.declared.script.Script.{Script}
-use Rattle.can_conform.specs.declared.script.Start.{Start}
-use Rattle.can_conform.specs.declared.script.Start.TheVariants as start
-use Rattle.can_conform.specs.declared.script.TesterLevel.{TesterLevel}
-use Rattle.can_conform.specs.declared.script.TesterLevel.TheVariants as tester
+use Rattle.can_terms.specs.declared.script.Script.{Script}
+use Rattle.can_terms.specs.declared.script.Start.{Start}
+use Rattle.can_terms.specs.declared.script.Start.TheVariants as start
+use Rattle.can_terms.specs.declared.script.TesterLevel.{TesterLevel}
+use Rattle.can_terms.specs.declared.script.TesterLevel.TheVariants as tester
 use Rattle.can_conform.specs.declared.standing.Standing.{Standing}
 use Rattle.can_conform.specs.declared.standing.Rule.{Rule}
-use Rattle.can_conform.specs.declared.timed.Timed.{Timed}
-use Rattle.can_conform.specs.declared.transcript.Counters.{Counters}
-use Rattle.can_conform.specs.declared.transcript.Ending.{Ending}
-use Rattle.can_conform.specs.Standings.{phase_name, phase_rule, role_name, rule_after}
+use Rattle.can_terms.specs.declared.timed.Timed.{Timed}
+use Rattle.can_terms.specs.declared.transcript.Counters.{Counters}
+use Rattle.can_terms.specs.declared.transcript.Ending.{Ending}
+use Rattle.can_terms.specs.Cases.{seen_by}
+use Rattle.can_conform.specs.Standings.{phase_rule, rule_after}
 
 -- ---- one bit time
-
--- the level that a controller sees if it drives the second one: the bus is dominant if either of the two drives
--- dominant; in a forced bit time the controller sees recessive, whatever it drives (2)
-abbrev pub seen_by : TesterLevel → Level → Level
-seen_by tester.Dominant drives = Dominant
-seen_by tester.Recessive drives = drives
-seen_by tester.Forced drives = Recessive
 
 -- the level that a port sees with this tester
 abbrev pub sees : TesterLevel → PortState → Level
@@ -127,7 +121,7 @@ since_before s (suc t) = last_event (moment_at s t).event t (since_before s t)
 abbrev pub next_rule : Option TesterLevel → Script → ℕ → PortState → Rule → Rule
 next_rule None s t p now = now
 next_rule (Some x) s t p now =
-    rule_after (told_event x (handed s t p)) (phase_name p.mac)
+    rule_after (told_event x (handed s t p)) (kind_of p.mac)
     (sees x (handed s t p)) (met x (handed s t p)).mac
 
 -- the rule that decides in bit time t
@@ -138,8 +132,9 @@ rule_before s (suc t) = next_rule (slice_get s.tester.items t) s t (before s t) 
 -- the state of the reference before bit time t
 abbrev pub standing_before : Script → ℕ → Standing
 standing_before s t = record {
-  phase = phase_name (before s t).mac;
-  role = role_name (before s t).mac.role;
+  phase = kind_of (before s t).mac;
+  place = place_of (before s t).mac;
+  is_sender = is_sender (before s t).mac.role;
   rule = rule_before s t;
   since = since_before s t;
 }

@@ -1,12 +1,13 @@
 -- Transcripts: what a controller did in a case, by bit time, and the transcript of a run.
 use Rattle.std.specs.Prelude.{ℕ, zero, suc, ◌≡◌, ◌+◌, ◌<◌, ◌^◌, ◌-◌, length, ◌==◌, nat_lt, Bool, ◌&&◌, if◌then◌else◌, List, [], ◌∷◌, ◌++◌, Option, Some, None, IfSome, IsSomeAnd, option_to_list, slice_get}
 use Rattle.can_frame.specs.declared.level.Level.{Level}
-use Rattle.can_mac.specs.declared.event.Event.{Event}
+use Rattle.can_terms.specs.declared.event.Event.{Event}
 use Rattle.can_conform.specs.declared.moment.Moment.{Moment}
-use Rattle.can_conform.specs.declared.script.Script.{Script}
-use Rattle.can_conform.specs.declared.timed.Timed.{Timed}
-use Rattle.can_conform.specs.declared.transcript.Counters.{Counters}
-use Rattle.can_conform.specs.declared.transcript.Transcript.{Transcript}
+use Rattle.can_terms.specs.declared.script.Script.{Script}
+use Rattle.can_terms.specs.declared.timed.Timed.{Timed}
+use Rattle.can_terms.specs.declared.transcript.Counters.{Counters}
+use Rattle.can_terms.specs.declared.transcript.Transcript.{Transcript}
+use Rattle.can_terms.specs.Cases.{AreRising}
 use Rattle.can_conform.specs.Runs.{before, counters_of, script_end, moment_at}
 
 -- ---- lists of elements with their times
@@ -26,27 +27,9 @@ abbrev pub at_time : {A : Type 0} → ℕ → Option A → List (Timed A)
 at_time t None = []
 at_time t (Some x) = record { time = t; told = x } ∷ []
 
--- their times rise strictly
-abbrev pub AreRising : {A : Type 0} → List (Timed A) → Type 0
-AreRising {A} xs =
-    (m n : ℕ) (x y : Timed A) → m < n
-    → slice_get xs m ≡ Some x → slice_get xs n ≡ Some y → x.time < y.time
-
--- all of them come before time t
-abbrev pub EndBefore : {A : Type 0} → List (Timed A) → ℕ → Type 0
-EndBefore {A} xs t = (n : ℕ) (x : Timed A) → slice_get xs n ≡ Some x → x.time < t
-
 -- a new controller's counters
 abbrev pub no_counts : Counters
 no_counts = record { transmit = 0; receive = 0 }
-
--- what the judge requires of a transcript: its times rise, and times and number of levels are below 2^32 - 1
-pub record IsTold (told : Transcript) : Type 0 where
-  pub levels : length told.drove.items < 2 ^ 32 - 1
-  pub events : IfSome told.events (λ events. AreRising events.items)
-  pub counters : IfSome told.counters (λ counters. AreRising counters.items)
-  pub events_end : IfSome told.events (λ events. EndBefore events.items (2 ^ 32 - 1))
-  pub counters_end : IfSome told.counters (λ counters. EndBefore counters.items (2 ^ 32 - 1))
 
 -- ---- a transcript agrees with the run
 

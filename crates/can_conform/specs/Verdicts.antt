@@ -2,17 +2,17 @@
 -- event, and an event before counters; the end is last.
 use Rattle.std.specs.Prelude.{ℕ, ◌≡◌, ◌≢◌, ◌+◌, ◌<◌, length, Option, Some, IfSome, IsSomeAnd, slice_get}
 use Rattle.can_frame.specs.declared.level.Level.{Level}
-use Rattle.can_mac.specs.declared.event.Event.{Event}
+use Rattle.can_terms.specs.declared.event.Event.{Event}
 use Rattle.can_conform.specs.declared.moment.Moment.{Moment}
-use Rattle.can_conform.specs.declared.script.Script.{Script}
+use Rattle.can_terms.specs.declared.script.Script.{Script}
 use Rattle.can_conform.specs.declared.judging.Difference.{Difference}
 use Rattle.can_conform.specs.declared.judging.Difference.TheVariants as difference
 use Rattle.can_conform.specs.declared.judging.Failure.{Failure}
 use Rattle.can_conform.specs.declared.judging.Verdict.{Verdict}
 use Rattle.can_conform.specs.declared.judging.Verdict.TheVariants.{Pass, Fail}
-use Rattle.can_conform.specs.declared.transcript.Counters.{Counters}
-use Rattle.can_conform.specs.declared.transcript.Ending.{Ending}
-use Rattle.can_conform.specs.declared.transcript.Transcript.{Transcript}
+use Rattle.can_terms.specs.declared.transcript.Counters.{Counters}
+use Rattle.can_terms.specs.declared.transcript.Ending.{Ending}
+use Rattle.can_terms.specs.declared.transcript.Transcript.{Transcript}
 use Rattle.can_conform.specs.Runs.{script_end, moment_at, standing_before}
 use Rattle.can_conform.specs.Transcripts.{Agrees, AgreesAt, no_counts, item_at, told_before}
 

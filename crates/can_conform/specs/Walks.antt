@@ -1,16 +1,16 @@
 -- How far the judge has come in a run and a transcript: definitions of private contracts and of proofs.
 use Rattle.std.specs.Prelude.{ℕ, ◌≡◌, ◌<◌, ◌≤◌, ◌%◌, Bool, true, false, List, [], ◌∷◌, get_or, Option, Some, IfSome, slice_get}
-use Rattle.can_mac.specs.declared.event.Event.{Event}
+use Rattle.can_terms.specs.declared.event.Event.{Event}
 use Rattle.can_node.specs.Ports.{PortState}
 use Rattle.can_conform.specs.declared.judging.Difference.{Difference}
 use Rattle.can_conform.specs.declared.judging.Difference.TheVariants as difference
 use Rattle.can_conform.specs.declared.judging.Progress.{Progress}
 use Rattle.can_conform.specs.declared.moment.Moment.{Moment}
 use Rattle.can_conform.specs.declared.outlook.Outlook.{Outlook}
-use Rattle.can_conform.specs.declared.script.Script.{Script}
+use Rattle.can_terms.specs.declared.script.Script.{Script}
 use Rattle.can_conform.specs.declared.standing.Rule.{Rule}
-use Rattle.can_conform.specs.declared.timed.Timed.{Timed}
-use Rattle.can_conform.specs.declared.transcript.Transcript.{Transcript}
+use Rattle.can_terms.specs.declared.timed.Timed.{Timed}
+use Rattle.can_terms.specs.declared.transcript.Transcript.{Transcript}
 use Rattle.can_conform.specs.Runs.{before, rule_before, since_before}
 use Rattle.can_conform.specs.Transcripts.{no_counts, told_before}
 use Rattle.can_conform.specs.Verdicts.{AreCounters, IsEvent, IsLevel}

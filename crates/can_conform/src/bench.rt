@@ -7,11 +7,9 @@ ghost use Rattle.can_conform.specs.Walks.{Foresees};
 use crate::meeting::{Meeting, counters_of, meet, started_node};
 use crate::moment::Moment;
 use crate::outlook::Outlook;
-use crate::script::{Script, TesterLevel};
-use crate::timed::Timed;
 use can_frame::{Frame, Level};
-use can_mac::Event;
 use can_node::{PackedNode, Port};
+use can_terms::{Event, Script, TesterLevel, Timed};
 use std::alloc::{AllocError, Global};
 
 /// The reference before a bit time.

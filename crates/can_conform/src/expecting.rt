@@ -4,9 +4,7 @@ ghost use Rattle.can_conform.specs.Transcripts.{at_time, same_counters, IsTransc
 
 use crate::bench::Bench;
 use crate::meeting::ending_of;
-use crate::script::Script;
-use crate::timed::Timed;
-use crate::transcript::{Counters, Transcript};
+use can_terms::{Counters, Script, Timed, Transcript};
 use std::alloc::{AllocError, Global};
 
 /// Returns what the reference does in a case. That is: the levels that it drives, its events, its counters after each

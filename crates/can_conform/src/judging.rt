@@ -1,21 +1,19 @@
 //! The judge: whether a transcript agrees with the run of the reference.
 ghost use Rattle.std.specs.Prelude.{ℕ, ◌≡◌, ◌≢◌, ◌≤◌, ◌<◌, ◌^◌, ◌-◌, ◌+◌, false, length, IfOk, IfSome, IsNone, IsSome, IsSomeAnd, IsTrue, None, slice_get};
 ghost use Rattle.can_conform.specs.Runs.{moment_at};
-ghost use Rattle.can_conform.specs.Transcripts.{no_counts, item_at, told_before, AgreesAt, AreRising, EndBefore, IsTold};
+ghost use Rattle.can_terms.specs.Cases.{AreRising, EndBefore, IsTold};
+ghost use Rattle.can_conform.specs.Transcripts.{no_counts, item_at, told_before, AgreesAt};
 ghost use Rattle.can_conform.specs.Verdicts.{IsVerdict};
 ghost use Rattle.can_conform.specs.Walks.{HasReached, HasWalked, IsDifferenceAt, IsStanding};
 
 use crate::bench::Bench;
 use crate::meeting::ending_of;
 use crate::moment::Moment;
-use crate::script::Script;
 use crate::standing::Standing;
-use crate::timed::Timed;
-use crate::transcript::{Counters, Ending, Transcript};
-use crate::watch::{Watch, place_of};
+use crate::watch::{Watch, position_of};
 use can_frame::Level;
-use can_mac::Event;
 use can_node::{PackedNode, Port};
+use can_terms::{Counters, Ending, Event, Script, Timed, Transcript};
 use std::alloc::{AllocError, Global};
 
 /// How a transcript differs from the run of the reference: the actual value, then the expected one.
@@ -85,16 +83,16 @@ pub fn judge(alloc: Global, script: &Script, transcript: &Transcript) -> Result<
         held: Counters::NONE,
     };
     for time in 0..horizon(script, transcript) {
-        let place = place_of(bench.node.access());
+        let position = position_of(bench.node.access());
         let moment = bench.step(script);
         if let Some(difference) = difference_at(transcript, &mut progress, &moment, time) {
             return Ok(Verdict::Fail(Failure {
                 time,
                 difference,
-                standing: watch.standing(place),
+                standing: watch.standing(position),
             }));
         }
-        watch.follow(script, time, place, &moment, bench.node.access());
+        watch.follow(script, time, position, &moment, bench.node.access());
     }
     Ok(concluded(script, transcript, &bench, &watch))
 }
@@ -111,7 +109,7 @@ fn concluded(script: &Script, transcript: &Transcript, bench: &Bench, watch: &Wa
         Some(told) if told != ought => Verdict::Fail(Failure {
             time: script.tester.len() as u32,
             difference: Difference::End { told, ought },
-            standing: watch.standing(place_of(bench.node.access())),
+            standing: watch.standing(position_of(bench.node.access())),
         }),
         _ => Verdict::Pass,
     }

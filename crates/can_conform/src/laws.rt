@@ -2,9 +2,10 @@
 ghost use Rattle.std.specs.Prelude.{◌≡◌, IsSomeAnd};
 ghost use Rattle.can_conform.specs.declared.judging.Failure.{Failure as FirstDifference};
 ghost use Rattle.can_conform.specs.declared.judging.Verdict.{Verdict as Judgement};
-ghost use Rattle.can_conform.specs.declared.script.Script.{Script as Case};
-ghost use Rattle.can_conform.specs.declared.transcript.Transcript.{Transcript as Record};
-ghost use Rattle.can_conform.specs.Transcripts.{changes_of, events_of, levels_of, Agrees, IsTold, IsTranscript, TellsRun};
+ghost use Rattle.can_terms.specs.declared.script.Script.{Script as Case};
+ghost use Rattle.can_terms.specs.declared.transcript.Transcript.{Transcript as Record};
+ghost use Rattle.can_terms.specs.Cases.{IsTold};
+ghost use Rattle.can_conform.specs.Transcripts.{changes_of, events_of, levels_of, Agrees, IsTranscript, TellsRun};
 ghost use Rattle.can_conform.specs.Verdicts.{IsFirst, IsVerdict};
 
 /// A case has exactly one transcript: the levels, events and counter changes of its run. Each transcript of the case

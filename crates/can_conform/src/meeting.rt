@@ -1,13 +1,12 @@
 //! The reference, and one bit time of a controller that shares the bus with the tester.
 ghost use Rattle.std.specs.Prelude.{◌≡◌, IfOk};
 ghost use Rattle.can_node.specs.Ports.{port_drives};
-ghost use Rattle.can_conform.specs.Runs.{counters_of as counters_of_port, ending_of as ending_of_port, met, seen_by, sees, started, told_event};
+ghost use Rattle.can_terms.specs.Cases.{seen_by};
+ghost use Rattle.can_conform.specs.Runs.{counters_of as counters_of_port, ending_of as ending_of_port, met, sees, started, told_event};
 
-use crate::script::{Start, TesterLevel};
-use crate::transcript::{Counters, Ending};
 use can_frame::Level;
-use can_mac::Event;
 use can_node::{PackedNode, Port};
+use can_terms::{Counters, Ending, Event, Start, TesterLevel};
 use std::alloc::{AllocError, Global};
 
 /// The capacity of the reference's queue: a case of the kit offers at most 256 frames.
@@ -22,20 +21,6 @@ pub struct Meeting {
     pub seen: Level,
     /// The event of the bit time.
     pub event: Option<Event>,
-}
-
-impl TesterLevel {
-    /// Returns the level that a controller sees if it drives this one. The bus is dominant if the controller or the
-    /// tester drives dominant. In a forced bit time the controller sees recessive.
-    pub fn seen_by(self, drives: Level) -> Level
-        ensures { result ≡ seen_by self drives }
-    {
-        match self {
-            TesterLevel::Dominant => Level::Dominant,
-            TesterLevel::Recessive => drives,
-            TesterLevel::Forced => Level::Recessive,
-        }
-    }
 }
 
 /// Returns the reference before bit time 0: a new port with a queue for 256 frames, and a log without capacity. It

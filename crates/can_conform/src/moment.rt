@@ -1,6 +1,5 @@
-use crate::transcript::Counters;
 use can_frame::Level;
-use can_mac::Event;
+use can_terms::{Counters, Event};
 
 /// What the reference does in one bit time.
 #[derive(Clone, Copy, Debug)]

@@ -1,12 +1,11 @@
 //! In which bit times of a case frames or requests come: in most there are none.
 ghost use Rattle.std.specs.Prelude.{◌≡◌, ◌≤◌, ◌+◌, IsFalse};
 ghost use Rattle.can_node.specs.Ports.{PortState};
-ghost use Rattle.can_conform.specs.declared.script.Script.{Script};
+ghost use Rattle.can_terms.specs.declared.script.Script.{Script};
 ghost use Rattle.can_conform.specs.Runs.{handed};
 ghost use Rattle.can_conform.specs.Walks.{AreMarked, Foresees, IsMarked, KeepsMarks};
 
-use crate::script::Script;
-use crate::timed::Timed;
+use can_terms::{Script, Timed};
 
 /// For how many bit times one search is valid. Chosen for speed, but its definitions have this number too.
 const SIGHT: usize = 256;

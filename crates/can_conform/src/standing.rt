@@ -1,50 +1,12 @@
 //! The state of the reference before a bit time: its phase, its role in the frame, and the rule of docs/ACCESS.md that
 //! decides in the phase.
 ghost use Rattle.std.specs.Prelude.{◌≡◌};
-ghost use Rattle.can_conform.specs.Standings.{error_rule as error_rule_of, overload_rule as overload_rule_of, phase_name as phase_name_of, phase_named as phase_named_of, phase_rule as phase_rule_of, role_name as role_name_of, rule_after as rule_after_of, stuffed_rule as stuffed_rule_of};
+ghost use Rattle.can_conform.specs.Standings.{error_rule as error_rule_of, overload_rule as overload_rule_of, phase_rule as phase_rule_of, rule_after as rule_after_of, rule_code, stuffed_rule as stuffed_rule_of};
 
-use crate::timed::Timed;
 use can_code::{FrameBits, Front, Place, rtr_place};
 use can_frame::Level;
-use can_mac::{ErrorKind, Event, MediumAccess, Phase, Role};
-
-/// The phase of the reference in a verdict. The number is how many levels of the phase have passed.
-#[derive(Clone, Copy, Debug, PartialEq, Eq)]
-pub enum PhaseName {
-    /// Bus integration: the number of recessive levels in a row, 0 to 10.
-    Joining(u8),
-    Idle,
-    /// The number of unstuffed levels of the frame, with its start of frame.
-    StuffedPart(usize),
-    CrcDelimiter,
-    AckSlot,
-    AckDelimiter,
-    /// 0 to 6.
-    EndOfFrame(u8),
-    /// An active error flag, 0 to 5.
-    ErrorFlag(u8),
-    /// A passive error flag: the last n levels are equal, 0 to 5.
-    PassiveFlag(u8),
-    /// 0 to 5.
-    OverloadFlag(u8),
-    /// After a flag: the number of dominant levels, modulo eight.
-    AfterFlag(u8),
-    /// The delimiter after a flag, 1 to 7.
-    Delimiter(u8),
-    /// 0 to 2.
-    Intermission(u8),
-    /// 0 to 7.
-    Suspend(u8),
-    /// The number of sequences of eleven recessive levels, 0 to 127.
-    BusOff(u8),
-}
-
-/// The role of the reference in the frame on the bus: transmitter or receiver.
-#[derive(Clone, Copy, Debug, PartialEq, Eq)]
-pub enum RoleName {
-    Receiver,
-    Sender,
-}
+use can_mac::{MediumAccess, Phase, Role};
+use can_terms::{ErrorKind, Event, PhaseKind, Timed};
 
 /// A rule of docs/ACCESS.md.
 #[derive(Clone, Copy, Debug, PartialEq, Eq)]
@@ -72,50 +34,41 @@ pub enum Rule {
 /// The state of the reference before a bit time.
 #[derive(Clone, Copy, Debug)]
 pub struct Standing {
-    pub phase: PhaseName,
-    pub role: RoleName,
+    pub phase: PhaseKind,
+    /// How far it has got in the phase, at most 127. (docs/NAMES.md)
+    pub place: u8,
+    /// Whether it is the transmitter of the frame on the bus.
+    pub is_sender: bool,
     pub rule: Rule,
     /// Its last event before that bit time, if there was one.
     pub since: Option<Timed<Event>>,
 }
 
-/// The name of a controller's phase.
-pub(crate) fn phase_name<B: FrameBits>(access: &MediumAccess<B>) -> PhaseName
-    ensures { result ≡ phase_name_of access.now }
-{
-    phase_named(access.phase(), access.confine().occurrences())
-}
-
-/// The name of a phase; during bus-off, `rows` sequences of eleven recessive levels have passed.
-fn phase_named<B: FrameBits>(phase: &Phase<Front<B>>, rows: u8) -> PhaseName
-    ensures { result ≡ phase_named_of phase.now rows }
-{
-    match phase {
-        Phase::Joining { row } => PhaseName::Joining(*row),
-        Phase::Idle => PhaseName::Idle,
-        Phase::StuffedPart(front) => PhaseName::StuffedPart(front.len()),
-        Phase::CrcDelimiter(_) => PhaseName::CrcDelimiter,
-        Phase::AckSlot(_) => PhaseName::AckSlot,
-        Phase::AckDelimiter(_) => PhaseName::AckDelimiter,
-        Phase::EndOfFrame { place, .. } => PhaseName::EndOfFrame(*place),
-        Phase::ErrorFlag { place } => PhaseName::ErrorFlag(*place),
-        Phase::PassiveFlag { run, .. } => PhaseName::PassiveFlag(*run),
-        Phase::OverloadFlag { place } => PhaseName::OverloadFlag(*place),
-        Phase::AfterFlag { dominant, .. } => PhaseName::AfterFlag(*dominant),
-        Phase::Delimiter { place } => PhaseName::Delimiter(*place),
-        Phase::Intermission { place } => PhaseName::Intermission(*place),
-        Phase::Suspend { place } => PhaseName::Suspend(*place),
-        Phase::BusOff => PhaseName::BusOff(rows),
-    }
-}
-
-/// The role of a controller in the frame on the bus.
-pub(crate) fn role_name(role: &Role) -> RoleName
-    ensures { result ≡ role_name_of role.now }
-{
-    match role {
-        Role::Receiver => RoleName::Receiver,
-        Role::Sender(_) => RoleName::Sender,
+impl Rule {
+    /// The number of the rule, as in bindings/riddlesage.h: 0 to 17, in the order of this enumeration.
+    pub fn code(self) -> u8
+        ensures { result ≡ rule_code self }
+    {
+        match self {
+            Rule::Joining => 0,
+            Rule::StartOfFrame => 1,
+            Rule::KeptFrame => 2,
+            Rule::Intermission => 3,
+            Rule::SuspendTransmission => 4,
+            Rule::BusOff => 5,
+            Rule::Arbitration => 6,
+            Rule::StuffPlaces => 7,
+            Rule::FixedForm => 8,
+            Rule::Acknowledgement => 9,
+            Rule::RefusedCrcSequence => 10,
+            Rule::DominantLastLevel => 11,
+            Rule::ErrorFlags => 12,
+            Rule::ErrorInAnOwnFlag => 13,
+            Rule::AfterAFlag => 14,
+            Rule::Delimiter => 15,
+            Rule::OverloadFlags => 16,
+            Rule::OwnOverloadFrames => 17,
+        }
     }
 }
 
@@ -157,40 +110,40 @@ fn stuffed_rule<B: FrameBits>(front: &Front<B>, role: &Role) -> Rule
 }
 
 /// The rule by which an error in this phase starts an error flag.
-fn error_rule(phase: PhaseName, kind: ErrorKind) -> Rule
+fn error_rule(phase: PhaseKind, kind: ErrorKind) -> Rule
     ensures { result ≡ error_rule_of phase kind }
 {
     match phase {
-        PhaseName::Joining(_) => Rule::Joining,
-        PhaseName::Idle => Rule::StartOfFrame,
-        PhaseName::StuffedPart(_) if kind == ErrorKind::Stuff => Rule::StuffPlaces,
-        PhaseName::StuffedPart(_) => Rule::Arbitration,
-        PhaseName::AckSlot => Rule::Acknowledgement,
-        PhaseName::AckDelimiter if kind == ErrorKind::Crc => Rule::RefusedCrcSequence,
-        PhaseName::CrcDelimiter | PhaseName::AckDelimiter | PhaseName::EndOfFrame(_) => {
+        PhaseKind::Joining => Rule::Joining,
+        PhaseKind::Idle => Rule::StartOfFrame,
+        PhaseKind::StuffedPart if kind == ErrorKind::Stuff => Rule::StuffPlaces,
+        PhaseKind::StuffedPart => Rule::Arbitration,
+        PhaseKind::AckSlot => Rule::Acknowledgement,
+        PhaseKind::AckDelimiter if kind == ErrorKind::Crc => Rule::RefusedCrcSequence,
+        PhaseKind::CrcDelimiter | PhaseKind::AckDelimiter | PhaseKind::EndOfFrame => {
             Rule::FixedForm
         }
-        PhaseName::ErrorFlag(_) | PhaseName::OverloadFlag(_) => Rule::ErrorInAnOwnFlag,
-        PhaseName::PassiveFlag(_) => Rule::ErrorFlags,
-        PhaseName::AfterFlag(_) => Rule::AfterAFlag,
-        PhaseName::Delimiter(_) => Rule::Delimiter,
-        PhaseName::Intermission(_) => Rule::Intermission,
-        PhaseName::Suspend(_) => Rule::SuspendTransmission,
-        PhaseName::BusOff(_) => Rule::BusOff,
+        PhaseKind::ErrorFlag | PhaseKind::OverloadFlag => Rule::ErrorInAnOwnFlag,
+        PhaseKind::PassiveFlag => Rule::ErrorFlags,
+        PhaseKind::AfterFlag => Rule::AfterAFlag,
+        PhaseKind::Delimiter => Rule::Delimiter,
+        PhaseKind::Intermission => Rule::Intermission,
+        PhaseKind::Suspend => Rule::SuspendTransmission,
+        PhaseKind::BusOff => Rule::BusOff,
     }
 }
 
 /// The rule by which this level in this phase starts an overload flag.
-fn overload_rule(phase: PhaseName, seen: Level) -> Rule
+fn overload_rule(phase: PhaseKind, seen: Level) -> Rule
     ensures { result ≡ overload_rule_of phase seen }
 {
     match (phase, seen) {
-        (PhaseName::EndOfFrame(_), Level::Dominant) => Rule::DominantLastLevel,
-        (PhaseName::Delimiter(_), Level::Dominant) => Rule::Delimiter,
-        (PhaseName::EndOfFrame(_) | PhaseName::Delimiter(_), Level::Recessive) => {
+        (PhaseKind::EndOfFrame, Level::Dominant) => Rule::DominantLastLevel,
+        (PhaseKind::Delimiter, Level::Dominant) => Rule::Delimiter,
+        (PhaseKind::EndOfFrame | PhaseKind::Delimiter, Level::Recessive) => {
             Rule::OwnOverloadFrames
         }
-        (PhaseName::Intermission(_), _) => Rule::Intermission,
+        (PhaseKind::Intermission, _) => Rule::Intermission,
         _ => Rule::OverloadFlags,
     }
 }
@@ -199,7 +152,7 @@ fn overload_rule(phase: PhaseName, seen: Level) -> Rule
 /// started it. The controller was in this phase before, and saw this level.
 pub(crate) fn rule_after<B: FrameBits>(
     event: &Option<Event>,
-    phase: PhaseName,
+    phase: PhaseKind,
     seen: Level,
     next: &MediumAccess<B>,
 ) -> Rule

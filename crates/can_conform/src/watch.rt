@@ -1,33 +1,34 @@
 //! The rule that decides in each bit time of a case, and the last event before it.
 ghost use Rattle.std.specs.Prelude.{◌≡◌, ◌+◌, None};
 ghost use Rattle.can_conform.specs.Runs.{before, last_event as last_event_of, moment_at, rule_before, since_before};
-ghost use Rattle.can_conform.specs.Standings.{phase_name as phase_name_of, phase_rule as phase_rule_of, role_name as role_name_of};
+ghost use Rattle.can_conform.specs.Standings.{phase_rule as phase_rule_of};
+ghost use Rattle.can_mac.specs.State.{is_sender, kind_of, place_of};
 
 use crate::moment::Moment;
-use crate::script::Script;
-use crate::standing::{
-    PhaseName, RoleName, Rule, Standing, phase_name, phase_rule, role_name, rule_after,
-};
-use crate::timed::Timed;
+use crate::standing::{Rule, Standing, phase_rule, rule_after};
 use can_code::FrameBits;
 use can_frame::Level;
-use can_mac::{Event, MediumAccess};
+use can_mac::MediumAccess;
+use can_terms::{Event, PhaseKind, Script, Timed};
 
-/// A phase and the role in it. Verdicts have them as they are before the bit time.
+/// The phase of a controller, its place in it, and its role. Verdicts have them as they are before the bit time.
 #[derive(Clone, Copy)]
-pub(crate) struct Place {
-    phase: PhaseName,
-    role: RoleName,
+pub(crate) struct Position {
+    phase: PhaseKind,
+    place: u8,
+    is_sender: bool,
 }
 
-/// The phase and the role of a controller.
-pub(crate) fn place_of<B: FrameBits>(access: &MediumAccess<B>) -> Place
-    ensures phase { result.phase ≡ phase_name_of access.now }
-    ensures role { result.role ≡ role_name_of access.now.role }
+/// The position of a controller.
+pub(crate) fn position_of<B: FrameBits>(access: &MediumAccess<B>) -> Position
+    ensures phase { result.phase ≡ kind_of access.now }
+    ensures place { result.place ≡ place_of access.now }
+    ensures role { result.is_sender ≡ is_sender access.now.role }
 {
-    Place {
-        phase: phase_name(access),
-        role: role_name(access.role()),
+    Position {
+        phase: access.phase().kind(),
+        place: access.place(),
+        is_sender: access.role().is_sender(),
     }
 }
 
@@ -50,17 +51,17 @@ impl Watch {
         }
     }
 
-    /// Follows a bit time of the case: the reference had this phase and role before, did `moment` in it, and is in
+    /// Follows a bit time of the case: the reference had this position before, did `moment` in it, and is in
     /// state `next` after it.
     pub(crate) fn follow<B: FrameBits>(
         &mut self,
         script: &Script,
         time: u32,
-        place: Place,
+        position: Position,
         moment: &Moment,
         next: &MediumAccess<B>,
     )
-        requires place { place.phase ≡ phase_name_of (before script.now time).mac }
+        requires position { position.phase ≡ kind_of (before script.now time).mac }
         requires moment { moment.now ≡ moment_at script.now time }
         requires next { next.now ≡ (before script.now (time + 1)).mac }
         requires rule { self.old.rule ≡ rule_before script.now time }
@@ -72,20 +73,22 @@ impl Watch {
             return;
         };
         let seen = tester.seen_by(moment.drove.unwrap_or(Level::Recessive));
-        self.rule = rule_after(&moment.event, place.phase, seen, next);
+        self.rule = rule_after(&moment.event, position.phase, seen, next);
         note_event(&mut self.since, &moment.event, time);
     }
 
-    /// The state of the reference, given its phase and role.
-    pub(crate) fn standing(&self, place: Place) -> Standing
-        ensures phase { result.phase ≡ place.phase }
-        ensures role { result.role ≡ place.role }
+    /// The state of the reference, given its position.
+    pub(crate) fn standing(&self, position: Position) -> Standing
+        ensures phase { result.phase ≡ position.phase }
+        ensures place { result.place ≡ position.place }
+        ensures role { result.is_sender ≡ position.is_sender }
         ensures rule { result.rule ≡ self.now.rule }
         ensures since { result.since ≡ self.now.since }
     {
         Standing {
-            phase: place.phase,
-            role: place.role,
+            phase: position.phase,
+            place: position.place,
+            is_sender: position.is_sender,
             rule: self.rule,
             since: self.since,
         }

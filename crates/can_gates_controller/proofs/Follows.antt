@@ -14,10 +14,10 @@ use Rattle.can_fault.specs.declared.cause.Cause.{Cause}
 use Rattle.can_fault.specs.declared.cause.Cause.TheVariants.{FrameSent, FrameReceived}
 use Rattle.can_fault.specs.Counters.{ConfineParts, counted, is_bus_off}
 use Rattle.can_fault.specs.Recovery.{ends_bus_off, recovered}
-use Rattle.can_mac.specs.declared.event.Event.{Event}
-use Rattle.can_mac.specs.declared.event.Event.TheVariants.{Sent, Received, Lost, WentOff, Recovered}
-use Rattle.can_mac.specs.declared.event.ErrorKind.{ErrorKind}
-use Rattle.can_mac.specs.declared.event.ErrorKind.TheVariants.{Bit as bit_error, Crc, Form, Stuff, Ack}
+use Rattle.can_terms.specs.declared.event.Event.{Event}
+use Rattle.can_terms.specs.declared.event.Event.TheVariants.{Sent, Received, Lost, WentOff, Recovered}
+use Rattle.can_terms.specs.declared.event.ErrorKind.{ErrorKind}
+use Rattle.can_terms.specs.declared.event.ErrorKind.TheVariants.{Bit as bit_error, Crc, Form, Stuff, Ack}
 use Rattle.can_mac.specs.declared.moves.Stance.{Stance}
 use Rattle.can_mac.specs.declared.phase.Reading.{Reading}
 use Rattle.can_mac.specs.declared.phase.Role.{Role}

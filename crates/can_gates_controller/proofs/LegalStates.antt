@@ -1,11 +1,11 @@
 -- What is so of the registers of each controller.
-use Rattle.std.proofs.Common.{◌≡◌, ℕ, ◌+◌, ◌<◌, ◌≤◌, ◌⊎◌, inl, inr, Bool, true, false, not, ◌&&◌, ◌||◌, cond, List, [], ◌∷◌, length, take, get_or, refl, ◌∙◌, arith, eq-eqb, Some}
+use Rattle.std.proofs.Common.{◌≡◌, ℕ, zero, suc, ◌+◌, ◌<◌, ◌≤◌, ◌⊎◌, inl, inr, Bool, true, false, not, ◌&&◌, ◌||◌, cond, List, [], ◌∷◌, length, take, get_or, refl, ◌∙◌, arith, eq-eqb, Some}
 use Rattle.std.specs.Prelude.{nat_le, nat_lt}
 use Rattle.std.proofs.Math.Dec.{eqb}
 use Rattle.std.proofs.lemmas.Bool.{cases_lt, cases_eq, ne_eqb}
 use Rattle.std.proofs.lemmas.List.{get_or_past}
 use Rattle.can_frame.specs.declared.level.Level.{Level}
-use Rattle.can_frame.specs.declared.level.Level.TheVariants.{Dominant}
+use Rattle.can_frame.specs.declared.level.Level.TheVariants.{Dominant, Recessive}
 use Rattle.can_frame.specs.Levels.{is_recessive}
 use Rattle.can_wire.specs.Layout.{level_at, frame_len}
 use Rattle.can_code.specs.declared.front.Place.TheVariants.{CrcDelimiter as ended}
@@ -51,7 +51,7 @@ module _ (v : ℕ → Bool) (none no_first no_flag : Literal) (last unacknowledg
   marks_are (AfterFlag b dominant) el eu eb = ef ∙ rw (el, eu) refl
   marks_are p el eu eb = en ∙ rw (el, eu, eb) refl
 
--- The role, by the phase.
+-- The role, the marks of flags and the own overload frames, by the phase.
 
 or_always : (b : Bool) → (b || true) ≡ true
 or_always true = refl
@@ -61,13 +61,32 @@ first_is : (first : Bool) (dominant : ℕ) → (first ≡ true → dominant ≡ 
 first_is true dominant h = rw (h refl) refl
 first_is false dominant h = or_always (nat_lt dominant 1)
 
-module _ (v : ℕ → Bool) (zero_is : v 0 ≡ false) (receives first : Literal) (role : Role) (row n : ℕ) (behind : Bool) (er : value v receives ≡ not (is_sender role)) (ef : value v first ≡ (nat_lt n 1 || not behind)) where
-  pub role_is : (p : MacPhase) → IsSettled p role → n ≡ cond (is_off_phase p) row (place_number p) → behind ≡ is_first p → value v (get_or (receives ∷ receives ∷ always ∷ always ∷ always ∷ always ∷ always ∷ always ∷ always ∷ always ∷ first ∷ always ∷ always ∷ always ∷ receives ∷ []) (phase_number p) never) ≡ true
-  role_is Idle h en eb = er ∙ rw h refl
-  role_is (Joining place) h en eb = er ∙ rw h refl
-  role_is BusOff h en eb = er ∙ rw h refl
-  role_is (AfterFlag first dominant) h en eb = ef ∙ rw (en, eb) (first_is first dominant h)
-  role_is p h en eb = value-always v zero_is
+-- only a transmitter waits for its missing acknowledgment to count
+waiting_sends : (unacknowledged sends : Bool) → (unacknowledged ≡ true → sends ≡ true) → (not unacknowledged || sends) ≡ true
+waiting_sends true sends h = h refl
+waiting_sends false sends h = refl
+
+-- a passive error flag begins as after a recessive level
+begins_recessive : (run : ℕ) (last : Level) → (run ≡ 0 → last ≡ Recessive) → (not (nat_lt run 1) || is_recessive last) ≡ true
+begins_recessive zero last h = rw (h refl) refl
+begins_recessive (suc n) last h = rw (above_is (suc n) 1 (omega arith)) refl
+
+module _ (v : ℕ → Bool) (zero_is : v 0 ≡ false) (receives sends unused flag first : Literal) (role : Role) (row n used : ℕ) (last unacknowledged behind : Bool)
+    (er : value v receives ≡ not (is_sender role)) (es : value v sends ≡ is_sender role) (eu : value v unused ≡ nat_lt used 1)
+    (ef : value v flag ≡ ((not unacknowledged || is_sender role) && (not (nat_lt n 1) || last))) (eb : value v first ≡ (nat_lt n 1 || not behind)) where
+  pub stance_is : (p : MacPhase) → IsSettled p role used → n ≡ cond (is_off_phase p) row (place_number p) → last ≡ last_recessive p → unacknowledged ≡ unacknowledged_of p → behind ≡ is_first p → value v (get_or (receives ∷ receives ∷ unused ∷ unused ∷ unused ∷ unused ∷ unused ∷ always ∷ flag ∷ always ∷ first ∷ always ∷ always ∷ sends ∷ receives ∷ []) (phase_number p) never) ≡ true
+  stance_is Idle h en el ea ei = er ∙ rw h refl
+  stance_is (Joining place) h en el ea ei = er ∙ rw h refl
+  stance_is BusOff h en el ea ei = er ∙ rw h refl
+  stance_is (StuffedPart front) h en el ea ei = eu ∙ rw h refl
+  stance_is (CrcDelimiter r) h en el ea ei = eu ∙ rw h refl
+  stance_is (AckSlot r) h en el ea ei = eu ∙ rw h refl
+  stance_is (AckDelimiter r) h en el ea ei = eu ∙ rw h refl
+  stance_is (EndOfFrame r place) h en el ea ei = eu ∙ rw h refl
+  stance_is (PassiveFlag level run u) h en el ea ei = ef ∙ rw (en, el, ea, waiting_sends u (is_sender role) h.0, begins_recessive run level h.1) refl
+  stance_is (AfterFlag b dominant) h en el ea ei = eb ∙ rw (en, ei) (first_is b dominant h)
+  stance_is (Suspend place) h en el ea ei = es ∙ h
+  stance_is p h en el ea ei = value-always v zero_is
 
 -- Wishes and counters.
 
@@ -137,8 +156,12 @@ dominant_behind u p = by (cases_lt p (length u))
 
 -- by the phase
 
-pub whole_fits : (n m : ℕ) → n ≡ m → (eqb m n && true) ≡ true
-whole_fits n m e = rw (e, eq-eqb m m refl) refl
+pub over_fits : (n m run : ℕ) → n ≡ m → 1 ≤ run → run < 5 → (eqb n m && (not (nat_lt run 1) && nat_lt run 5)) ≡ true
+over_fits n m run e some short = rw (eq-eqb n m e, above_is run 1 some, below_is run 5 short) refl
+
+-- the start of frame is dominant
+pub starts_dominant : (b first unheard : Bool) (x : Level) → b ≡ (unheard && not first) → unheard ≡ true → first ≡ is_recessive x → x ≡ Dominant → b ≡ true
+starts_dominant b first unheard x e u f d = e ∙ rw (u, f, d) refl
 
 pub front_of : (p : MacPhase) (C : Type 0) → is_part p ≡ true → ((front : FrontParts) → p ≡ StuffedPart front → C) → C
 front_of (StuffedPart front) C e f = f front refl

@@ -19,6 +19,7 @@ pub mod FieldRows
 -- what is so in each state
 pub mod Settled
 pub mod LegalStates
+pub mod OwnLegal
 -- steps and runs
 pub mod Taking
 pub mod StepsTaken

@@ -4,7 +4,7 @@ use Rattle.can_frame.specs.declared.level.Level.{Level}
 use Rattle.can_frame.specs.Parts.{Parts}
 use Rattle.can_wire.specs.Wire.{head, unstuffed}
 use Rattle.can_code.specs.Front.{FrontParts, first_front, heard_level}
-use Rattle.can_mac.specs.declared.event.Event.{Event}
+use Rattle.can_terms.specs.declared.event.Event.{Event}
 use Rattle.can_mac.specs.declared.phase.Role.{Role}
 use Rattle.can_mac.specs.declared.phase.Role.TheVariants.{Sender}
 use Rattle.can_mac.specs.declared.phase.Phase.TheVariants.{StuffedPart, CrcDelimiter, AckSlot, AckDelimiter, EndOfFrame}
@@ -13,7 +13,7 @@ use Rattle.can_gates.specs.declared.literal.Literal.{Literal}
 use Rattle.can_gates.specs.Circuit.{value, never}
 use Rattle.can_gates_mac.specs.declared.registers.Controller.{Controller}
 use Rattle.can_gates_mac.specs.Nibbles.{nibble}
-use Rattle.can_mac.specs.Codes.{event_code}
+use Rattle.can_terms.specs.Codes.{event_code}
 use Rattle.can_gates_mac.specs.Numbers.{Numbers}
 use Rattle.can_gates_mac.specs.Shown.{shown}
 use Rattle.can_gates_mac.specs.Stepping.{IsStep}

@@ -4,7 +4,7 @@ use Rattle.std.specs.Prelude.{nat_le, nat_lt}
 use Rattle.can_frame.specs.Levels.{is_recessive, level_from}
 use Rattle.can_frame.specs.Parts.{Parts, IsFrame}
 use Rattle.can_wire.specs.Wire.{head}
-use Rattle.can_mac.specs.declared.event.Event.{Event}
+use Rattle.can_terms.specs.declared.event.Event.{Event}
 use Rattle.can_mac.specs.State.{MacState, idle, joining}
 use Rattle.can_mac.specs.Machine.{mac_drives, holding}
 use Rattle.can_mac.proofs.Kept.{holding_kept}
@@ -14,7 +14,7 @@ use Rattle.can_gates.specs.Words.{number}
 use Rattle.can_gates_mac.specs.declared.nibble.Nibble.{Nibble}
 use Rattle.can_gates_mac.specs.declared.registers.Controller.{Controller}
 use Rattle.can_gates_mac.specs.Nibbles.{nibble}
-use Rattle.can_mac.specs.Codes.{event_code}
+use Rattle.can_terms.specs.Codes.{event_code}
 use Rattle.can_gates_mac.specs.Stepping.{Holds}
 use Rattle.can_gates_controller.specs.declared.registers.Registers.{Registers}
 use Rattle.can_gates_controller.specs.declared.registers.Offered.{Offered}

@@ -71,7 +71,7 @@ takes_holds v w held next m t h = record {
         record { levels = λ p l. t.heard.levels p l ∙ f.levels p l; count = t.heard.count ∙ f.count; run = record { last = t.heard.last ∙ f.run.last; run = t.heard.run ∙ f.run.run }; check = λ p l. t.heard.check p l ∙ f.check p l };
     told = λ r e.
         let f = h.heard.told r e in
-        record { unstuffed = f.unstuffed; whole = f.whole; told = f.told; levels = λ p l. t.heard.levels p l ∙ f.levels p l; count = t.heard.count ∙ f.count; check = λ p l. t.heard.check p l ∙ f.check p l };
+        record { unstuffed = f.unstuffed; complete = f.complete; told = f.told; levels = λ p l. t.heard.levels p l ∙ f.levels p l; count = t.heard.count ∙ f.count; some = rw t.heard.run f.some; short = rw t.heard.run f.short; check = λ p l. t.heard.check p l ∙ f.check p l };
   };
   own = record { levels = λ f e role p l. t.own p l ∙ h.own.levels f e role p l; sent = h.own.sent };
 }

@@ -12,8 +12,8 @@ use Rattle.can_wire.specs.Layout.{level_at, filled, levels_at, extended_of, rtr_
 use Rattle.can_wire.proofs.LayoutPlaces.{length-filled}
 use Rattle.can_wire.proofs.LayoutBytes.{length-bytes_from}
 use Rattle.can_wire.proofs.LayoutRead.{frame_of-head}
-use Rattle.can_mac.specs.declared.event.Event.{Event}
-use Rattle.can_mac.specs.declared.event.Event.TheVariants.{Sent, Received, Lost, Error, Overload, WentOff, Recovered}
+use Rattle.can_terms.specs.declared.event.Event.{Event}
+use Rattle.can_terms.specs.declared.event.Event.TheVariants.{Sent, Received, Lost, Error, Overload, WentOff, Recovered}
 use Rattle.can_mac.specs.declared.phase.Role.TheVariants.{Receiver, Sender}
 use Rattle.can_mac.specs.State.{MacState, IsRole}
 use Rattle.can_gates.specs.declared.literal.Literal.{Literal}

@@ -4,8 +4,8 @@ use Rattle.can_frame.specs.declared.level.Level.{Level}
 use Rattle.can_frame.specs.Parts.{Parts}
 use Rattle.can_code.specs.Front.{FrontParts, first_front, heard_level}
 use Rattle.can_code.specs.Sending.{sent_level}
-use Rattle.can_mac.specs.declared.event.Event.{Event}
-use Rattle.can_mac.specs.declared.event.Event.TheVariants.{Sent, Received}
+use Rattle.can_terms.specs.declared.event.Event.{Event}
+use Rattle.can_terms.specs.declared.event.Event.TheVariants.{Sent, Received}
 use Rattle.can_mac.specs.declared.phase.Reading.{Reading}
 use Rattle.can_mac.specs.declared.phase.Role.{Role}
 use Rattle.can_mac.specs.declared.phase.Role.TheVariants.{Receiver, Sender}
@@ -69,7 +69,8 @@ IsEventIn p role (Some (Received f)) = (role ≡ Receiver) × ((r : Reading) × 
 IsEventIn p role e = Unit {0}
 
 -- the phase, the role and the event that follow a phase
-pub record Follows (p : MacPhase) (role : Role) (waiting : Option Parts) (x : Level) (q : MacPhase) (new : Role) (e : Option Event) : Type 0 where
+pub record Follows (p : MacPhase) (role : Role) (waiting : Option Parts) (x : Level) (q : MacPhase) (new : Role)
+    (e : Option Event) : Type 0 where
   pub next : IsPhaseBehind p role waiting x q new
   pub told : IsEventIn p role e
 

@@ -1,9 +1,9 @@
 -- The frame of a controller in a circuit's registers.
-use Rattle.std.specs.Prelude.{ℕ, ◌≡◌, Bool, true, false, List, length, Option, Some}
+use Rattle.std.specs.Prelude.{ℕ, ◌≡◌, ◌<◌, ◌≤◌, Bool, true, false, List, length, Option, Some}
 use Rattle.can_frame.specs.declared.level.Level.{Level}
 use Rattle.can_frame.specs.Levels.{is_recessive}
 use Rattle.can_frame.specs.Parts.{Parts}
-use Rattle.can_wire.specs.Layout.{frame_len}
+use Rattle.can_wire.specs.Layout.{IsComplete}
 use Rattle.can_code.specs.Front.{FrontParts}
 use Rattle.can_mac.specs.declared.phase.Reading.{Reading}
 use Rattle.can_mac.specs.declared.phase.Phase.TheVariants.{Joining, Idle, StuffedPart, CrcDelimiter, AckSlot, AckDelimiter, EndOfFrame, ErrorFlag, PassiveFlag, OverloadFlag, AfterFlag, Delimiter, Intermission, Suspend, BusOff}
@@ -13,6 +13,7 @@ use Rattle.can_gates.specs.Circuit.{value}
 use Rattle.can_gates.specs.Words.{number}
 use Rattle.can_gates_mac.specs.Numbers.{reading_in, is_waiting}
 use Rattle.can_gates_mac.specs.Inputs.{TellsReading}
+use Rattle.can_gates_mac.specs.Nibbles.{nibble}
 use Rattle.can_gates_controller.specs.declared.heard.Heard.{Heard}
 use Rattle.can_gates_controller.specs.declared.seen.Seen.{Seen}
 use Rattle.can_gates_controller.specs.Fronts.{HoldsLevels, HoldsCheck, HoldsFront, TellsSender}
@@ -35,13 +36,16 @@ is_in_frame (Intermission place) = false
 is_in_frame (Suspend place) = false
 is_in_frame BusOff = false
 
--- the registers have the unstuffed bits of a frame with this reading, their number and their CRC
+-- the registers have the unstuffed bits of a frame with this reading, their number, the run that ended with them, after
+-- which no stuff bit is due, and their CRC
 pub record HoldsTold (v : ℕ → Bool) (k : Heard) (r : Reading) : Type 0 where
   pub unstuffed : List Level
-  pub whole : length unstuffed ≡ frame_len unstuffed
+  pub complete : IsComplete unstuffed
   pub told : r ≡ reading_of unstuffed
   pub levels : HoldsLevels v k.levels unstuffed
   pub count : number v k.count ≡ length unstuffed
+  pub some : 1 ≤ nibble v k.run
+  pub short : nibble v k.run < 5
   pub check : HoldsCheck v k.check unstuffed
 
 -- in a frame the registers hold what has been received of it: in its stuffed part the levels so far, after that its

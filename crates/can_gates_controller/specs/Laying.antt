@@ -6,8 +6,8 @@ use Rattle.can_gates.specs.Words.{number}
 use Rattle.can_gates_controller.specs.declared.fields.Fields.{Fields}
 use Rattle.can_gates_controller.specs.Fields.{bytes_in}
 
--- the first n literals, the last of them first: a word has its lowest bit first, and on the bus the highest is sent first. Past the end literals are
--- false
+-- the first n literals, the last of them first: a word has its lowest bit first, and on the bus the highest is sent
+-- first. Past the end literals are false
 unfoldable pub turned_word : ℕ → List Literal → List Literal
 turned_word zero items = []
 turned_word (suc n) items = slice_index_or items n never ∷ turned_word n items
@@ -17,8 +17,8 @@ unfoldable pub turned_bytes : ℕ → List Literal → List Literal
 turned_bytes zero items = []
 turned_bytes (suc n) items = turned_word 8 items ++ turned_bytes n (drop 8 items)
 
--- from its RTR bit on: in a standard frame IDE and r0 follow it, in an extended one r1 and r0; then in both the data length code, its highest bit
--- first, and the data
+-- from its RTR bit on: in a standard frame IDE and r0 follow it, in an extended one r1 and r0; then in both the data
+-- length code, its highest bit first, and the data
 abbrev pub behind_list : Fields → List Literal → List Literal
 behind_list k bytes = k.remote ∷ never ∷ never ∷ k.dlc.eights ∷ k.dlc.fours ∷ k.dlc.twos ∷ k.dlc.ones ∷ bytes
 
@@ -28,7 +28,9 @@ standard_list k bytes = never ∷ (turned_word 11 k.identifier ++ behind_list k 
 
 -- an extended one
 abbrev pub extended_list : Fields → List Literal → List Literal
-extended_list k bytes = never ∷ (turned_word 11 (drop 18 k.identifier) ++ always ∷ always ∷ (turned_word 18 k.identifier ++ behind_list k bytes))
+extended_list k bytes =
+    never ∷
+    (turned_word 11 (drop 18 k.identifier) ++ always ∷ always ∷ (turned_word 18 k.identifier ++ behind_list k bytes))
 
 -- the identifier of an extended frame that begins with these levels, the lowest bit first
 abbrev pub long_list : List Literal → List Literal

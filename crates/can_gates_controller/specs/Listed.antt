@@ -23,7 +23,10 @@ nibble_before n rest = n.ones ∷ n.twos ∷ n.fours ∷ n.eights ∷ rest
 
 -- the registers of a controller without its counters
 abbrev pub wires_list : Wires → List Literal
-wires_list w = nibble_before w.phase (nibble_before w.place (w.last ∷ w.unacknowledged ∷ w.first ∷ w.sender ∷ nibble_before w.pending (nibble_before w.used [])))
+wires_list w =
+    nibble_before w.phase
+    (nibble_before w.place (w.last ∷ w.unacknowledged ∷ w.first ∷ w.sender
+    ∷ nibble_before w.pending (nibble_before w.used [])))
 
 -- those of its counters
 abbrev pub counters_list : Counters → List Literal
@@ -43,11 +46,15 @@ field_list k = k.extended ∷ k.remote ∷ (placed 29 k.identifier ++ nibble_bef
 
 -- all inputs
 abbrev pub input_list : InputPorts → List Literal
-input_list k = k.reset ∷ k.integrating ∷ k.enable ∷ k.bus ∷ k.overload_request ∷ k.overload_count_ones ∷ k.overload_count_twos ∷ k.waits ∷ field_list k.frame
+input_list k =
+    k.reset ∷ k.integrating ∷ k.enable ∷ k.bus ∷ k.overload_request ∷ k.overload_count_ones ∷ k.overload_count_twos
+    ∷ k.waits ∷ field_list k.frame
 
 -- all outputs
 abbrev pub output_list : OutputPorts → List Literal
-output_list k = ((((k.drive ∷ nibble_before k.event_code []) ++ field_list k.frame) ++ placed 9 k.tec) ++ placed 8 k.rec) ++ (k.passive ∷ k.off ∷ k.legal ∷ [])
+output_list k =
+    ((((k.drive ∷ nibble_before k.event_code []) ++ field_list k.frame) ++ placed 9 k.tec) ++ placed 8 k.rec)
+    ++ (k.passive ∷ k.off ∷ k.legal ∷ [])
 
 -- n literals are the signals from this one on
 abbrev pub AreSignals : ℕ → ℕ → List Literal → Type 0

@@ -9,7 +9,7 @@ use Rattle.can_gates.specs.declared.register.Register.{Register}
 use Rattle.can_gates.specs.Circuit.{value, Keeps, CircuitParts, never}
 use Rattle.can_gates.specs.Words.{number}
 use Rattle.can_gates_mac.specs.Nibbles.{nibble}
-use Rattle.can_mac.specs.Codes.{event_code}
+use Rattle.can_terms.specs.Codes.{event_code}
 use Rattle.can_gates_controller.specs.declared.ports.InputPorts.{InputPorts}
 use Rattle.can_gates_controller.specs.declared.ports.OutputPorts.{OutputPorts}
 use Rattle.can_gates_controller.specs.declared.design.Design.{Design}
@@ -29,8 +29,8 @@ step_in v k = record {
   level = level_from (value v k.bus);
 }
 
--- the outputs are those of this controller in this step: the level that it drives, its event, its counters, and whether it is error passive and
--- bus-off
+-- the outputs are those of this controller in this step: the level that it drives, its event, its counters, and whether
+-- it is error passive and bus-off
 pub record Shows (v : ℕ → Bool) (k : OutputPorts) (m : MacState) (s : ControllerStep) : Type 0 where
   pub drive : value v k.drive ≡ is_recessive (mac_drives m s.waiting)
   pub event : nibble v k.event_code ≡ event_code (event_in m s)
@@ -76,8 +76,8 @@ Resets d =
     StepsRegisters d.circuit d.registers.items before now →
     HoldsAll now d.held (if value before d.inputs.integrating then joining else idle)
 
--- in each assignment that keeps the circuit, for any controller in the registers and any inputs, the outputs are those of the machine, and one step
--- later the registers hold its next state
+-- in each assignment that keeps the circuit, for any controller in the registers and any inputs, the outputs are those
+-- of the machine, and one step later the registers hold its next state
 abbrev pub IsController : Design → Type 0
 IsController d =
     (before : ℕ → Bool) (m : MacState) → Keeps before d.circuit → HoldsAll before d.held m →
@@ -100,8 +100,8 @@ RunsAlike d =
     (v : ℕ → ℕ → Bool) (m : MacState) (n : ℕ) → IsRun d v n → HoldsAll (v 0) d.held m →
     (t : ℕ) → t < n → Shows (v t) d.outputs (state_before m (steps_in d v) t) (steps_in d v t)
 
--- the circuit's first inputs are those of a step, and its last ones the values of registers, each in the order of its list; the outputs are listed in
--- the order of a file
+-- the circuit's first inputs are those of a step, and its last ones the values of registers, each in the order of its
+-- list; the outputs are listed in the order of a file
 pub record HasPorts (d : Design) : Type 0 where
   pub inputs : d.circuit.inputs ≡ 384
   pub registers : length d.registers.items ≡ 277

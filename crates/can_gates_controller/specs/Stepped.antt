@@ -21,8 +21,8 @@ pub record IsRegister (r : Register) (l : Literal) : Type 0 where
 abbrev pub TakesLevels : (ℕ → Bool) → (ℕ → Bool) → ℕ → List Literal → List Literal → Type 0
 TakesLevels before now places held next = (p : ℕ) → p < places → value_at now held p ≡ value_at before next p
 
--- the next value of the register with this index: at a reset 0, except that the first is whether the controller joins; otherwise that after the bit
--- time, or the present one if none passes
+-- the next value of the register with this index: at a reset 0, except that the first is whether the controller joins;
+-- otherwise that after the bit time, or the present one if none passes
 abbrev pub taken_at : Bool → Bool → Bool → ℕ → Bool → Bool → Bool
 taken_at reset integrating enable place next held = if reset then place == 0 && integrating else (if enable then next else held)
 

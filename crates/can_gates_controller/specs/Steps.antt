@@ -2,12 +2,12 @@
 use Rattle.std.specs.Prelude.{ℕ, zero, suc, nat_le, Bool, if◌then◌else◌, Option, Some, None}
 use Rattle.can_frame.specs.declared.level.Level.{Level}
 use Rattle.can_frame.specs.Parts.{Parts}
-use Rattle.can_mac.specs.declared.event.Event.{Event}
+use Rattle.can_terms.specs.declared.event.Event.{Event}
 use Rattle.can_mac.specs.State.{MacState, idle, joining}
 use Rattle.can_mac.specs.Machine.{mac_step, holding}
 
--- one step: whether it is a reset, and the controller then joins; otherwise whether a bit time passes; the request for own overload frames before it,
--- if any; the pending frame; and the sampled level
+-- one step: whether it is a reset, and the controller then joins; otherwise whether a bit time passes; the request for
+-- own overload frames before it, if any; the pending frame; and the sampled level
 pub record ControllerStep : Type 0 where
   pub reset : Bool
   pub integrating : Bool

@@ -1,5 +1,5 @@
 //! An invariant of the registers: true in each state that a run reaches, so that a solver may assume it.
-ghost use Rattle.std.specs.Prelude.{◌≡◌, ◌≤◌, ℕ, nat_le, Bool, true, false, List, length};
+ghost use Rattle.std.specs.Prelude.{◌≡◌, ◌+◌, ◌<◌, ◌≤◌, ℕ, nat_le, nat_lt, Bool, true, false, List, length};
 ghost use Rattle.can_frame.specs.declared.level.Level.{Level};
 ghost use Rattle.can_wire.specs.Layout.{frame_len};
 ghost use Rattle.can_code.specs.Front.{FrontParts};
@@ -17,6 +17,7 @@ use crate::following::Within;
 use crate::front::frame_length;
 use crate::heard::Heard;
 use crate::next_front::within;
+use crate::own_frame::own_is_legal;
 use crate::registers::Registers;
 use can_gates::{Circuit, FALSE, Literal, TRUE, constant};
 use can_gates_mac::{Controller, Counters, Wires};
@@ -35,15 +36,17 @@ pub(crate) fn is_legal(circuit: &mut Circuit, held: &Registers) -> Literal
     let within = within(circuit, wires.phase);
     let place = place_is_legal(circuit, &held.controller);
     let marks = marks_are_legal(circuit, &held.controller);
-    let role = role_is_legal(circuit, &held.controller);
+    let stance = stance_is_legal(circuit, &held.controller);
     let wishes = wishes_are_legal(circuit, wires);
     let counters = counters_are_legal(circuit, &held.controller);
     let heard = heard_is_legal(circuit, within, &held.heard);
+    let own = own_is_legal(circuit, within, held);
     let phase = circuit.and(place, marks);
-    let stance = circuit.and(role, wishes);
-    let on = circuit.and(phase, stance);
+    let state = circuit.and(stance, wishes);
+    let on = circuit.and(phase, state);
     let counted = circuit.and(counters, heard);
-    circuit.and(on, counted)
+    let frames = circuit.and(counted, own);
+    circuit.and(on, frames)
 }
 
 /// Whether the place is in the range of the phase.
@@ -86,19 +89,38 @@ fn marks_are_legal(circuit: &mut Circuit, held: &Controller) -> Literal
     circuit.select(&items, &number)
 }
 
-/// Whether a controller that is idle, joining or bus-off is no transmitter, and no dominant level has come before the
-/// first level after an error flag.
-fn role_is_legal(circuit: &mut Circuit, held: &Controller) -> Literal
-    ensures { Makes circuit.old circuit.new (λ v. (m : MacState) → IsSettled m.phase m.role → Holds v held.now m → value v result ≡ true) }
+/// Whether what the phase leaves open is legal. A controller that is idle, joining or bus-off is no transmitter, and one
+/// that suspends transmission is one. In a frame no own overload frame was sent since the last one. A passive error flag
+/// waits for an acknowledgement only at a transmitter, and begins as after a recessive level. No dominant level has come
+/// before the first level after an error flag.
+fn stance_is_legal(circuit: &mut Circuit, held: &Controller) -> Literal
+    ensures { Makes circuit.old circuit.new (λ v. (m : MacState) → IsSettled m.phase m.role m.overloads.used → Holds v held.now m → value v result ≡ true) }
 {
     let wires = held.wires;
     let receives = wires.sender.opposite();
+    let unused = wires.used.less(circuit, 1);
     let start = wires.place.less(circuit, 1);
+    let waits = circuit.or(wires.unacknowledged.opposite(), wires.sender);
+    let begins = circuit.or(start.opposite(), wires.last);
+    let flag = circuit.and(waits, begins);
     let first = circuit.or(start, wires.first.opposite());
     // in the order of the phases' numbers
     let items = [
-        receives, receives, TRUE, TRUE, TRUE, TRUE, TRUE, TRUE, TRUE, TRUE, first, TRUE, TRUE,
-        TRUE, receives,
+        receives,
+        receives,
+        unused,
+        unused,
+        unused,
+        unused,
+        unused,
+        TRUE,
+        flag,
+        TRUE,
+        first,
+        TRUE,
+        TRUE,
+        wires.sender,
+        receives,
     ];
     let phase = wires.phase;
     let place = [phase.ones, phase.twos, phase.fours, phase.eights];
@@ -137,16 +159,17 @@ fn counters_are_legal(circuit: &mut Circuit, held: &Controller) -> Literal
 }
 
 /// Whether the registers of a received frame are consistent: in its stuffed part a frame that goes on, after it a whole
-/// one.
+/// one. Its start of frame is dominant.
 fn heard_is_legal(circuit: &mut Circuit, within: Within, heard: &Heard) -> Literal
     ensures { Makes circuit.old circuit.new (λ v. (p : MacPhase) → IsPhase p → ShowsWithin v within p → HoldsHeard v heard.now p → value v result ≡ true) }
 {
     let length = frame_length(circuit, &heard.levels);
-    let whole = circuit.equals(&length, &heard.count);
     let going = going_is_legal(circuit, heard, &length);
-    let levels = levels_are_legal(circuit, heard);
+    let over = over_is_legal(circuit, heard, &length);
+    let unheard = levels_are_legal(circuit, &heard.levels, &heard.count);
+    let levels = circuit.and(unheard, heard.levels[0].opposite());
     let part = circuit.and(going, levels);
-    let end = circuit.and(whole, levels);
+    let end = circuit.and(over, levels);
     let behind = circuit.ite(within.end, end, TRUE);
     circuit.ite(within.part, part, behind)
 }
@@ -169,20 +192,48 @@ fn going_is_legal(circuit: &mut Circuit, heard: &Heard, length: &[Literal]) -> L
     circuit.and(fits, ended.opposite())
 }
 
-/// Whether no bit is recessive that has not been received.
-fn levels_are_legal(circuit: &mut Circuit, heard: &Heard) -> Literal
-    ensures { Makes circuit.old circuit.new (λ v. (u : List Level) → HoldsLevels v heard.now.levels u → number v heard.now.count ≡ length u → value v result ≡ true) }
+/// Whether a received frame that has `length` bits in all is whole, with a run of 1 to 4: no stuff bit is due.
+fn over_is_legal(circuit: &mut Circuit, heard: &Heard, length: &[Literal]) -> Literal
+    ensures { Makes circuit.old circuit.new (λ v. number v length.now ≡ number v heard.now.count → 1 ≤ nibble v heard.now.run → nibble v heard.now.run < 5 → value v result ≡ true) }
+{
+    let whole = circuit.equals(length, &heard.count);
+    let none = heard.run.less(circuit, 1);
+    let few = heard.run.less(circuit, 5);
+    let runs = circuit.and(none.opposite(), few);
+    circuit.and(whole, runs)
+}
+
+/// Whether no bit is recessive after the first `count`.
+pub(crate) fn levels_are_legal(
+    circuit: &mut Circuit,
+    levels: &[Literal; 103],
+    count: &[Literal; 7],
+) -> Literal
+    ensures { Makes circuit.old circuit.new (λ v. (u : List Level) → HoldsLevels v levels.now u → number v count.now ≡ length u → value v result ≡ true) }
 {
     let mut legal = TRUE;
     let mut behind = FALSE;
     for place in 0..PLACES {
-        let number = constant::<7>(place as u64);
-        let here = circuit.equals(&heard.count, &number);
-        behind = circuit.or(behind, here);
-        let wrong = circuit.and(behind, heard.levels[place]);
+        behind = is_past(circuit, behind, count, place);
+        let wrong = circuit.and(behind, levels[place]);
         legal = circuit.and(legal, wrong.opposite());
     }
     legal
+}
+
+/// Whether the bit with this index comes after the first `count`, given whether the one before it does.
+pub(crate) fn is_past(
+    circuit: &mut Circuit,
+    before: Literal,
+    count: &[Literal; 7],
+    place: usize,
+) -> Literal
+    requires { place < 128 }
+    ensures { Makes circuit.old circuit.new (λ v. value v before ≡ nat_lt (number v count.now) place → value v result ≡ nat_lt (number v count.now) (place + 1)) }
+{
+    let number = constant::<7>(place as u64);
+    let here = circuit.equals(count, &number);
+    circuit.or(before, here)
 }
 
 /// Whether a controller with these counters is bus-off.

@@ -19,7 +19,7 @@
 //! | `ports.rt` | [`InputPorts`], [`OutputPorts`]: its inputs and outputs | `specs/Runs.antt` |
 //! | `signals.rt`, `listing.rt` | which signals are inputs and registers, and their order in a file | `specs/Listed.antt` |
 //! | `stepping.rt` | a step: a reset, a bit time, or nothing | `specs/Stepped.antt` |
-//! | `legal.rt` | an invariant of the registers, for solvers | |
+//! | `legal.rt`, `own_frame.rt` | an invariant of the registers, for solvers | |
 //! | `registers.rt` | [`Registers`], [`Offered`], [`BitTime`] | `specs/Whole.antt` |
 //! | `whole.rt` | [`bit_time`], a bit time | `specs/Whole.antt` |
 //! | `heard.rt`, `front.rt` | [`Heard`], the registers of a received frame; [`hear`], one more level; [`ends`], whether its stuffed part ends; [`read`], what the move reads | `specs/Fronts.antt` |
@@ -46,6 +46,7 @@ mod levels;
 mod listing;
 mod making;
 mod next_front;
+mod own_frame;
 mod ports;
 mod registers;
 mod seen;

@@ -9,8 +9,8 @@ use crate::stepping::step;
 use can_gates::{Circuit, CircuitFault};
 use std::alloc::Global;
 
-/// The capacity of the circuit, in gates: a third more than it has.
-const ROOM: u32 = 8192;
+/// The capacity of the circuit, in gates: more than a quarter above what it has.
+const ROOM: u32 = 9216;
 
 /// Returns a controller as a circuit that lacks no gate. Its registers start with 0, which is an idle controller. After
 /// a reset they hold an idle controller, or a joining one. In each step of each run its outputs are those of can_mac's

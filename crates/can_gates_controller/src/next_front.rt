@@ -5,7 +5,7 @@ ghost use Rattle.can_frame.specs.Parts.{Parts};
 ghost use Rattle.can_code.specs.Front.{FrontParts, first_front, heard_level};
 ghost use Rattle.can_mac.specs.declared.phase.Role.{Role};
 ghost use Rattle.can_mac.specs.declared.phase.Phase.TheVariants.{StuffedPart};
-ghost use Rattle.can_mac.specs.State.{MacPhase};
+ghost use Rattle.can_mac.specs.State.{MacPhase, IsPhase};
 ghost use Rattle.can_gates.specs.Circuit.{value, Makes};
 ghost use Rattle.can_gates_mac.specs.Nibbles.{nibble};
 ghost use Rattle.can_gates_mac.specs.Numbers.{phase_number};
@@ -73,7 +73,7 @@ pub(crate) fn front_behind(
     heard: &Heard,
     next: &Heard,
 ) -> Heard
-    ensures { Makes circuit.old circuit.new (λ v. (p q : MacPhase) (role new : Role) (waiting : Option Parts) (x : Level) → ShowsWithin v within p → HoldsHeard v heard.now p → ((front : FrontParts) → p ≡ StuffedPart front → HoldsFront v next.now (heard_level front x)) → IsPhaseBehind p role waiting x q new → HoldsHeard v result q) }
+    ensures { Makes circuit.old circuit.new (λ v. (p q : MacPhase) (role new : Role) (waiting : Option Parts) (x : Level) → IsPhase p → ShowsWithin v within p → HoldsHeard v heard.now p → ((front : FrontParts) → p ≡ StuffedPart front → HoldsFront v next.now (heard_level front x)) → IsPhaseBehind p role waiting x q new → HoldsHeard v result q) }
 {
     let first = first_heard();
     let kept = choose_heard(circuit, within.end, heard, &first);

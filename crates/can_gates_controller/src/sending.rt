@@ -6,6 +6,7 @@ ghost use Rattle.can_wire.specs.Wire.{head, unstuffed};
 ghost use Rattle.can_code.specs.Front.{FrontParts};
 ghost use Rattle.can_code.specs.Sending.{sent_level};
 ghost use Rattle.can_gates.specs.Circuit.{value, Makes};
+ghost use Rattle.can_gates.specs.Words.{number};
 ghost use Rattle.can_gates_controller.specs.Fronts.{HoldsFront, HoldsLevels};
 
 use crate::front::frame_length;
@@ -21,11 +22,18 @@ pub(crate) fn next_sent(circuit: &mut Circuit, heard: &Heard, own: &[Literal; 10
     ensures { Makes circuit.old circuit.new (λ v. (f : Parts) (front : FrontParts) → IsFrame f → HoldsLevels v own.now (head f) → HoldsFront v heard.now front → front.unstuffed ≡ take (length front.unstuffed) (unstuffed f) → value v result ≡ is_recessive (sent_level f (length front.unstuffed))) }
 {
     let level = circuit.select(own, &heard.count);
+    let end = head_length(circuit, own);
+    let of_head = circuit.less(&heard.count, &end);
+    circuit.ite(of_head, level, heard.check[0])
+}
+
+/// How many bits the frame has up to the end of the data field.
+pub(crate) fn head_length(circuit: &mut Circuit, own: &[Literal; 103]) -> [Literal; 7]
+    ensures { Makes circuit.old circuit.new (λ v. (f : Parts) → IsFrame f → HoldsLevels v own.now (head f) → number v result ≡ length (head f)) }
+{
     let length = frame_length(circuit, own);
     let fifteen = constant::<7>(CHECK_LENGTH);
-    let before = circuit.lowered(&length, &fifteen);
-    let of_head = circuit.less(&heard.count, &before);
-    circuit.ite(of_head, level, heard.check[0])
+    circuit.lowered(&length, &fifteen)
 }
 
 /// Whether the frame is extended.

@@ -1,6 +1,6 @@
 -- From one bit time to the next.
 use Rattle.std.proofs.Common.{ℕ, Bool, Option, ap}
-use Rattle.can_mac.specs.declared.event.Event.{Event}
+use Rattle.can_terms.specs.declared.event.Event.{Event}
 use Rattle.can_mac.specs.State.{MacState}
 use Rattle.can_gates_mac.specs.declared.registers.Controller.{Controller}
 use Rattle.can_gates_mac.specs.Numbers.{Numbers}

@@ -7,8 +7,8 @@ use Rattle.can_frame.specs.Levels.{is_recessive, same}
 use Rattle.can_frame.specs.Parts.{Parts}
 use Rattle.can_code.specs.Front.{FrontParts, heard_level}
 use Rattle.can_code.specs.Sending.{sent_level}
-use Rattle.can_mac.specs.declared.event.Event.TheVariants.{Lost}
-use Rattle.can_mac.specs.declared.event.ErrorKind.TheVariants.{Bit, Stuff}
+use Rattle.can_terms.specs.declared.event.Event.TheVariants.{Lost}
+use Rattle.can_terms.specs.declared.event.ErrorKind.TheVariants.{Bit, Stuff}
 use Rattle.can_mac.specs.declared.moves.Stance.{Stance}
 use Rattle.can_mac.specs.declared.phase.Overloads.{Overloads}
 use Rattle.can_mac.specs.declared.phase.Role.{Role}

@@ -7,7 +7,7 @@ use Rattle.can_frame.specs.Levels.{is_recessive}
 use Rattle.can_frame.specs.Parts.{Parts}
 use Rattle.can_fault.specs.declared.cause.Cause.{Cause}
 use Rattle.can_fault.specs.declared.cause.Cause.TheVariants.{ReceiverFirstDominant, ReceiverDominantRun, SenderDominantRun, PassiveUnacknowledged}
-use Rattle.can_mac.specs.declared.event.ErrorKind.TheVariants.{Bit, Crc, Form, Ack}
+use Rattle.can_terms.specs.declared.event.ErrorKind.TheVariants.{Bit, Crc, Form, Ack}
 use Rattle.can_mac.specs.declared.moves.Stance.{Stance}
 use Rattle.can_mac.specs.declared.phase.Reading.{Reading}
 use Rattle.can_mac.specs.declared.phase.Overloads.{Overloads}

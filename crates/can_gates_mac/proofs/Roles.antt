@@ -3,7 +3,7 @@ use Rattle.std.specs.Prelude.{◌≡◌, ◌&&◌, if◌then◌else◌, Some, re
 use Rattle.can_mac.specs.declared.phase.Role.{Role}
 use Rattle.can_mac.specs.declared.phase.Role.TheVariants.{Receiver, Sender}
 use Rattle.can_mac.specs.declared.moves.Stance.{Stance}
-use Rattle.can_mac.specs.Codes.{kind_code}
+use Rattle.can_terms.specs.Codes.{error_code}
 use Rattle.can_mac.specs.Moves.{is_held_back, error_cause, flag_bit_cause, form_kind}
 use Rattle.can_gates_mac.specs.Numbers.{is_sender, cause_number}
 
@@ -15,7 +15,7 @@ pub flag_bit_cause_is : (role : Role) → (if is_sender role then 3 else 2) ≡ 
 flag_bit_cause_is Receiver = refl
 flag_bit_cause_is (Sender f) = refl
 
-pub form_kind_is : (role : Role) → (if is_sender role then 4 else 7) ≡ kind_code (form_kind role)
+pub form_kind_is : (role : Role) → (if is_sender role then 4 else 7) ≡ error_code (form_kind role)
 form_kind_is Receiver = refl
 form_kind_is (Sender f) = refl
 

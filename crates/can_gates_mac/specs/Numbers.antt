@@ -6,15 +6,18 @@ use Rattle.can_fault.specs.declared.cause.Cause.{Cause}
 use Rattle.can_fault.specs.declared.cause.Cause.TheVariants.{ReceiverError, ReceiverFlagBit, ReceiverFirstDominant, ReceiverDominantRun, SenderError, SenderFlagBit, SenderDominantRun, PassiveUnacknowledged, FrameSent, FrameReceived}
 use Rattle.can_mac.specs.declared.phase.Reading.{Reading}
 use Rattle.can_mac.specs.declared.phase.Phase.TheVariants.{Joining, Idle, StuffedPart, CrcDelimiter, AckSlot, AckDelimiter, EndOfFrame, ErrorFlag, PassiveFlag, OverloadFlag, AfterFlag, Delimiter, Intermission, Suspend, BusOff}
-use Rattle.can_mac.specs.Codes.{event_code}
+use Rattle.can_terms.specs.declared.phase_kind.PhaseKind.{PhaseKind}
+use Rattle.can_terms.specs.declared.phase_kind.PhaseKind.TheVariants as kind
+use Rattle.can_terms.specs.Codes.{event_code, phase_code}
 use Rattle.can_mac.specs.State.{MacPhase}
 pub use Rattle.can_mac.specs.State.{is_sender}
 use Rattle.can_mac.specs.Moves.{MacMove}
 
 -- Phases.
 
--- the phase's own number; the place in it, or how many levels in a row it has counted; whether the last level in a passive error flag was recessive;
--- whether the flag is that of a transmitter without acknowledgment; whether the next level is the first after an error flag
+-- the phase's own number; the place in it, or how many levels in a row it has counted; whether the last level in a
+-- passive error flag was recessive; whether the flag is that of a transmitter without acknowledgment; whether the next
+-- level is the first after an error flag
 pub record PhaseNumbers : Type 0 where
   pub phase : ℕ
   pub place : ℕ
@@ -23,26 +26,27 @@ pub record PhaseNumbers : Type 0 where
   pub first : Bool
 
 -- a phase that uses only its number and its place
-abbrev pub at_place : ℕ → ℕ → PhaseNumbers
-at_place phase place = record { phase = phase; place = place; last = false; unacknowledged = false; first = false }
+abbrev pub at_place : PhaseKind → ℕ → PhaseNumbers
+at_place phase place = record { phase = phase_code phase; place = place; last = false; unacknowledged = false; first = false }
 
 -- the numbers of a phase
 abbrev pub phase_numbers : MacPhase → PhaseNumbers
-phase_numbers Idle = at_place 0 0
-phase_numbers (Joining row) = at_place 1 row
-phase_numbers (StuffedPart front) = at_place 2 0
-phase_numbers (CrcDelimiter r) = at_place 3 0
-phase_numbers (AckSlot r) = at_place 4 0
-phase_numbers (AckDelimiter r) = at_place 5 0
-phase_numbers (EndOfFrame r place) = at_place 6 place
-phase_numbers (ErrorFlag place) = at_place 7 place
-phase_numbers (PassiveFlag last run unacknowledged) = record (at_place 8 run) { last = is_recessive last; unacknowledged = unacknowledged }
-phase_numbers (OverloadFlag place) = at_place 9 place
-phase_numbers (AfterFlag first dominant) = record (at_place 10 dominant) { first = first }
-phase_numbers (Delimiter place) = at_place 11 place
-phase_numbers (Intermission place) = at_place 12 place
-phase_numbers (Suspend place) = at_place 13 place
-phase_numbers BusOff = at_place 14 0
+phase_numbers Idle = at_place kind.Idle 0
+phase_numbers (Joining row) = at_place kind.Joining row
+phase_numbers (StuffedPart front) = at_place kind.StuffedPart 0
+phase_numbers (CrcDelimiter r) = at_place kind.CrcDelimiter 0
+phase_numbers (AckSlot r) = at_place kind.AckSlot 0
+phase_numbers (AckDelimiter r) = at_place kind.AckDelimiter 0
+phase_numbers (EndOfFrame r place) = at_place kind.EndOfFrame place
+phase_numbers (ErrorFlag place) = at_place kind.ErrorFlag place
+phase_numbers (PassiveFlag last run unacknowledged) =
+    record (at_place kind.PassiveFlag run) { last = is_recessive last; unacknowledged = unacknowledged }
+phase_numbers (OverloadFlag place) = at_place kind.OverloadFlag place
+phase_numbers (AfterFlag first dominant) = record (at_place kind.AfterFlag dominant) { first = first }
+phase_numbers (Delimiter place) = at_place kind.Delimiter place
+phase_numbers (Intermission place) = at_place kind.Intermission place
+phase_numbers (Suspend place) = at_place kind.Suspend place
+phase_numbers BusOff = at_place kind.BusOff 0
 
 -- each of them by itself
 abbrev pub phase_number : MacPhase → ℕ

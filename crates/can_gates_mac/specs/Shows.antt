@@ -17,7 +17,9 @@ use Rattle.can_gates_mac.specs.Sensed.{IsSensed}
 
 -- the wires are the move from this phase, for any stance of the controller, any pending frame and any level
 abbrev pub ShowsMove : (ℕ → Bool) → Senses → Wires → MacPhase → Type 0
-ShowsMove v k w p = (s : Stance) (waiting : Option Parts) (x : Level) → IsSensed v k s p waiting x → shown v w ≡ numbers (move s p waiting x)
+ShowsMove v k w p =
+    (s : Stance) (waiting : Option Parts) (x : Level) → IsSensed v k s p waiting x
+    → shown v w ≡ numbers (move s p waiting x)
 
 -- the wires are the move from the stuffed part, for any frame received so far
 abbrev pub ShowsPart : (ℕ → Bool) → Senses → Part → Wires → Type 0

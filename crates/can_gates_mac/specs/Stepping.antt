@@ -4,7 +4,7 @@ use Rattle.can_frame.specs.declared.level.Level.{Level}
 use Rattle.can_frame.specs.Levels.{is_recessive}
 use Rattle.can_frame.specs.Parts.{Parts}
 use Rattle.can_fault.specs.Counters.{ConfineParts}
-use Rattle.can_mac.specs.declared.event.Event.{Event}
+use Rattle.can_terms.specs.declared.event.Event.{Event}
 use Rattle.can_mac.specs.State.{MacState, is_off_phase}
 use Rattle.can_gates.specs.Circuit.{value}
 use Rattle.can_gates.specs.Words.{number}
@@ -12,7 +12,7 @@ use Rattle.can_gates_mac.specs.declared.wires.Inputs.{Inputs}
 use Rattle.can_gates_mac.specs.declared.registers.Counters.{Counters}
 use Rattle.can_gates_mac.specs.declared.registers.Controller.{Controller}
 use Rattle.can_gates_mac.specs.Nibbles.{nibble}
-use Rattle.can_mac.specs.Codes.{event_code}
+use Rattle.can_terms.specs.Codes.{event_code}
 use Rattle.can_gates_mac.specs.Numbers.{Numbers, phase_number, place_number, last_recessive, unacknowledged_of, is_first, is_sender, is_waiting}
 use Rattle.can_gates_mac.specs.Shown.{shown}
 use Rattle.can_gates_mac.specs.Inputs.{TellsReading, IsPartIn}
@@ -68,4 +68,16 @@ pub record IsStep (v : ℕ → Bool) (k : Controller) (step : MacState × Option
 
 -- all registers 0, except the phase
 abbrev pub reset_numbers : ℕ → Numbers
-reset_numbers phase = record { phase = phase; place = 0; last = false; unacknowledged = false; first = false; sender = false; pending = 0; used = 0; cause = 0; event = 0 }
+reset_numbers phase =
+    record {
+      phase = phase;
+      place = 0;
+      last = false;
+      unacknowledged = false;
+      first = false;
+      sender = false;
+      pending = 0;
+      used = 0;
+      cause = 0;
+      event = 0;
+    }

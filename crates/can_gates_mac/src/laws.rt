@@ -1,6 +1,6 @@
 //! Laws that connect one bit time with the next.
 ghost use Rattle.std.specs.Prelude.{◌≡◌, ℕ, Bool, Option, None};
-ghost use Rattle.can_mac.specs.declared.event.Event.{Event};
+ghost use Rattle.can_terms.specs.declared.event.Event.{Event};
 ghost use Rattle.can_mac.specs.State.{MacState, idle, joining};
 ghost use Rattle.can_mac.specs.Machine.{holding};
 ghost use Rattle.can_gates_mac.specs.declared.registers.Controller.{Controller as ControllerOf};

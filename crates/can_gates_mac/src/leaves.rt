@@ -2,11 +2,11 @@
 ghost use Rattle.std.specs.Prelude.{◌≡◌, ◌+◌, ◌-◌, ◌<◌, ◌≤◌, ℕ, Bool, true, false, nat_lt, if◌then◌else◌, Option, Some, None};
 ghost use Rattle.can_frame.specs.Levels.{is_recessive};
 ghost use Rattle.can_fault.specs.declared.cause.Cause.{Cause};
-ghost use Rattle.can_mac.specs.declared.event.ErrorKind.{ErrorKind};
+ghost use Rattle.can_terms.specs.declared.event.ErrorKind.{ErrorKind};
 ghost use Rattle.can_mac.specs.declared.phase.Role.{Role};
 ghost use Rattle.can_mac.specs.declared.phase.Role.TheVariants.{Receiver};
 ghost use Rattle.can_mac.specs.declared.phase.Phase.TheVariants.{Idle};
-ghost use Rattle.can_mac.specs.Codes.{kind_code};
+ghost use Rattle.can_terms.specs.Codes.{error_code};
 ghost use Rattle.can_mac.specs.Moves.{begins_frame, errs_by, errs, errs_in_flag, form_kind, overload, goes};
 ghost use Rattle.can_gates.specs.Circuit.{value};
 ghost use Rattle.can_gates_mac.specs.Nibbles.{nibble};
@@ -47,7 +47,7 @@ impl Senses {
 
     /// An error of a transmitter or a receiver: an error flag starts.
     pub(crate) fn errs_by(&self, sender: Literal, cause: Nibble, kind: Nibble) -> Wires
-        ensures { WhereSensed self.now (λ v s p x. (role : Role) (c : Option Cause) (e : ErrorKind) → value v sender ≡ is_sender role → nibble v cause ≡ cause_number c → nibble v kind ≡ kind_code e → shown v result ≡ numbers (errs_by c false (record s { role = role }) e)) }
+        ensures { WhereSensed self.now (λ v s p x. (role : Role) (c : Option Cause) (e : ErrorKind) → value v sender ≡ is_sender role → nibble v cause ≡ cause_number c → nibble v kind ≡ error_code e → shown v result ≡ numbers (errs_by c false (record s { role = role }) e)) }
     {
         Wires {
             phase: flag_of(self.passive),
@@ -65,7 +65,7 @@ impl Senses {
 
     /// An error in a frame or in a delimiter.
     pub(crate) fn errs(&self, kind: Nibble) -> Wires
-        ensures { WhereSensed self.now (λ v s p x. (e : ErrorKind) → nibble v kind ≡ kind_code e → shown v result ≡ numbers (errs s e)) }
+        ensures { WhereSensed self.now (λ v s p x. (e : ErrorKind) → nibble v kind ≡ error_code e → shown v result ≡ numbers (errs s e)) }
     {
         self.errs_by(self.sender, error_cause_of(self.sender), kind)
     }

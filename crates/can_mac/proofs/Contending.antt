@@ -4,7 +4,7 @@ use Rattle.std.proofs.Math.Dec.{ltb}
 use Rattle.std.proofs.lemmas.Bool.{cond_both}
 use Rattle.can_frame.specs.Parts.{Parts}
 use Rattle.can_wire.specs.Layout.{level_at}
-use Rattle.can_mac.specs.declared.event.Event.TheVariants.{Lost}
+use Rattle.can_terms.specs.declared.event.Event.TheVariants.{Lost}
 use Rattle.can_mac.specs.declared.phase.Role.TheVariants.{Receiver, Sender}
 use Rattle.can_mac.specs.State.{MacState}
 use Rattle.can_mac.specs.Frames.{state_after, told_at, driven_at, with_intermission, behind_part, role_at, role_after, role_drives, frame_drives, frame_event, loss, StartsWith, AreHeard, PartsAt}

@@ -15,7 +15,7 @@ use Rattle.can_wire.proofs.LayoutPlaces.{level_at-append, level_at-behind}
 use Rattle.can_code.proofs.UnstuffedLevels.{unstuffed-agrees, frame_of-unstuffed}
 use Rattle.can_code.proofs.WireFronts.{front_at, front_at-heard, front_at-going, front_at-ended, front_at-unstuffed}
 use Rattle.can_fault.specs.Counters.{ConfineParts}
-use Rattle.can_mac.specs.declared.event.Event.TheVariants.{Lost}
+use Rattle.can_terms.specs.declared.event.Event.TheVariants.{Lost}
 use Rattle.can_mac.specs.declared.moves.Stance.{Stance}
 use Rattle.can_mac.specs.declared.phase.Overloads.{Overloads}
 use Rattle.can_mac.specs.declared.phase.Role.{Role}

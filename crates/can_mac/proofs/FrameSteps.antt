@@ -12,8 +12,8 @@ use Rattle.can_code.proofs.UnstuffedLevels.{stuffed_part-part}
 use Rattle.can_code.proofs.WireFronts.{front_at, front_at-no_error, front_at-next}
 use Rattle.can_fault.specs.declared.cause.Cause.TheVariants.{FrameSent}
 use Rattle.can_fault.specs.Counters.{ConfineParts, counted, is_bus_off, is_passive}
-use Rattle.can_mac.specs.declared.event.Event.{Event}
-use Rattle.can_mac.specs.declared.event.Event.TheVariants.{Lost}
+use Rattle.can_terms.specs.declared.event.Event.{Event}
+use Rattle.can_terms.specs.declared.event.Event.TheVariants.{Lost}
 use Rattle.can_mac.specs.declared.phase.Overloads.{Overloads}
 use Rattle.can_mac.specs.declared.phase.Role.{Role}
 use Rattle.can_mac.specs.declared.phase.Role.TheVariants.{Receiver, Sender}

@@ -10,8 +10,8 @@ use Rattle.can_wire.specs.Heard.{HeardParts, Spells}
 use Rattle.can_code.specs.Front.{FrontParts, next_place}
 use Rattle.can_code.proofs.FrontsOf.{IsFrontOf}
 use Rattle.can_code.proofs.WireFronts.{front_at}
-use Rattle.can_mac.specs.declared.event.Event.{Event}
-use Rattle.can_mac.specs.declared.event.Event.TheVariants.{Sent, Received, Lost, Error, Overload, WentOff, Recovered}
+use Rattle.can_terms.specs.declared.event.Event.{Event}
+use Rattle.can_terms.specs.declared.event.Event.TheVariants.{Sent, Received, Lost, Error, Overload, WentOff, Recovered}
 use Rattle.can_mac.specs.declared.phase.Role.{Role}
 use Rattle.can_mac.specs.declared.phase.Role.TheVariants.{Receiver, Sender}
 use Rattle.can_mac.specs.declared.phase.Reading.{Reading}

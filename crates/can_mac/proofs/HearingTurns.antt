@@ -5,8 +5,8 @@ use Rattle.std.proofs.lemmas.Bool.{cases_Bool, cond_both}
 use Rattle.can_frame.specs.declared.level.Level.{Level}
 use Rattle.can_frame.specs.Parts.{Parts}
 use Rattle.can_fault.specs.Recovery.{ends_bus_off, recovered}
-use Rattle.can_mac.specs.declared.event.Event.{Event}
-use Rattle.can_mac.specs.declared.event.Event.TheVariants.{Recovered}
+use Rattle.can_terms.specs.declared.event.Event.{Event}
+use Rattle.can_terms.specs.declared.event.Event.TheVariants.{Recovered}
 use Rattle.can_mac.specs.declared.phase.Phase.TheVariants.{Idle}
 use Rattle.can_mac.specs.State.{MacState, is_off_phase, IsFrameOrNone}
 use Rattle.can_mac.specs.Machine.{stance, off_step, mac_step}

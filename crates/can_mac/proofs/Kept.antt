@@ -8,8 +8,8 @@ use Rattle.can_frame.specs.Parts.{Parts}
 use Rattle.can_fault.specs.declared.cause.Cause.{Cause}
 use Rattle.can_fault.specs.Counters.{ConfineParts, IsConfine, counted, fresh, is_bus_off}
 use Rattle.can_fault.specs.Recovery.{after_level, ends_bus_off, recovered}
-use Rattle.can_mac.specs.declared.event.Event.{Event}
-use Rattle.can_mac.specs.declared.event.Event.TheVariants.{WentOff, Recovered}
+use Rattle.can_terms.specs.declared.event.Event.{Event}
+use Rattle.can_terms.specs.declared.event.Event.TheVariants.{WentOff, Recovered}
 use Rattle.can_mac.specs.declared.phase.Role.TheVariants.{Receiver}
 use Rattle.can_mac.specs.declared.phase.Phase.TheVariants.{Joining, Idle, BusOff}
 use Rattle.can_mac.specs.State.{MacPhase, MacState, IsMac, IsPhase, IsFrameOrNone, idle, is_off_phase, joining, starting}

@@ -14,9 +14,9 @@ use Rattle.can_code.proofs.LayoutWrite.{IsFrame-frame_of}
 use Rattle.can_code.proofs.FrontLemmas.{IsFront-first_front, IsFront-stuff_bit, IsFront-bit, next_place-partial, next_place-ended, next_place-first_front}
 use Rattle.can_fault.specs.declared.cause.Cause.{Cause}
 use Rattle.can_fault.specs.declared.cause.Cause.TheVariants.{FrameSent, FrameReceived}
-use Rattle.can_mac.specs.declared.event.Event.TheVariants.{Sent, Received, Lost}
-use Rattle.can_mac.specs.declared.event.ErrorKind.{ErrorKind}
-use Rattle.can_mac.specs.declared.event.ErrorKind.TheVariants.{Bit as bit_error, Crc, Form, Stuff, Ack}
+use Rattle.can_terms.specs.declared.event.Event.TheVariants.{Sent, Received, Lost}
+use Rattle.can_terms.specs.declared.event.ErrorKind.{ErrorKind}
+use Rattle.can_terms.specs.declared.event.ErrorKind.TheVariants.{Bit as bit_error, Crc, Form, Stuff, Ack}
 use Rattle.can_mac.specs.declared.moves.Stance.{Stance}
 use Rattle.can_mac.specs.declared.phase.Overloads.{Overloads}
 use Rattle.can_mac.specs.declared.phase.Reading.{Reading}

@@ -9,10 +9,10 @@ use Rattle.can_frame.specs.declared.level.Level.TheVariants.{Dominant, Recessive
 use Rattle.can_frame.specs.Parts.{Parts}
 use Rattle.can_wire.specs.Stuffing.{run_after}
 use Rattle.can_fault.specs.Counters.{ConfineParts, is_bus_off, is_passive, receiver_raised}
-use Rattle.can_mac.specs.declared.event.Event.{Event}
-use Rattle.can_mac.specs.declared.event.Event.TheVariants.{Error}
-use Rattle.can_mac.specs.declared.event.ErrorKind.{ErrorKind}
-use Rattle.can_mac.specs.declared.event.ErrorKind.TheVariants.{Form}
+use Rattle.can_terms.specs.declared.event.Event.{Event}
+use Rattle.can_terms.specs.declared.event.Event.TheVariants.{Error}
+use Rattle.can_terms.specs.declared.event.ErrorKind.{ErrorKind}
+use Rattle.can_terms.specs.declared.event.ErrorKind.TheVariants.{Form}
 use Rattle.can_mac.specs.declared.phase.Overloads.{Overloads}
 use Rattle.can_mac.specs.declared.phase.Role.TheVariants.{Receiver}
 use Rattle.can_mac.specs.declared.phase.Phase.TheVariants.{PassiveFlag, AfterFlag, Delimiter, Idle, Intermission}

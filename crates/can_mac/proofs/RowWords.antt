@@ -5,7 +5,7 @@ use Rattle.can_frame.specs.declared.level.Level.{Level}
 use Rattle.can_frame.specs.declared.level.Level.TheVariants.{Recessive}
 use Rattle.can_frame.specs.Levels.{level_of}
 use Rattle.can_frame.specs.Parts.{Parts}
-use Rattle.can_mac.specs.declared.event.Event.{Event}
+use Rattle.can_terms.specs.declared.event.Event.{Event}
 use Rattle.can_mac.specs.declared.phase.Reading.{Reading}
 use Rattle.can_mac.specs.declared.phase.Role.TheVariants.{Sender}
 use Rattle.can_mac.specs.State.{MacPhase, MacState, idle}

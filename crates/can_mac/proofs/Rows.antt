@@ -11,8 +11,8 @@ use Rattle.can_wire.specs.Stuffing.{stuffed}
 use Rattle.can_wire.specs.Wire.{head, unstuffed, stuffed_part}
 use Rattle.can_wire.specs.Layout.{frame_of, frame_len}
 use Rattle.can_fault.specs.Counters.{fresh}
-use Rattle.can_mac.specs.declared.event.Event.TheVariants.{Sent, Received, Lost, Error, Overload}
-use Rattle.can_mac.specs.declared.event.ErrorKind.TheVariants.{Bit, Stuff, Crc, Form}
+use Rattle.can_terms.specs.declared.event.Event.TheVariants.{Sent, Received, Lost, Error, Overload}
+use Rattle.can_terms.specs.declared.event.ErrorKind.TheVariants.{Bit, Stuff, Crc, Form}
 use Rattle.can_mac.specs.declared.phase.Phase.TheVariants.{Idle, Delimiter, Intermission, ErrorFlag, PassiveFlag}
 use Rattle.can_mac.specs.State.{MacState, idle, joining}
 use Rattle.can_mac.specs.Moves.{agrees}

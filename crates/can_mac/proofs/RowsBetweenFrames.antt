@@ -9,8 +9,8 @@ use Rattle.can_wire.specs.Crc.{crc_of}
 use Rattle.can_code.specs.Front.{first_front}
 use Rattle.can_wire.specs.Wire.{head, unstuffed}
 use Rattle.can_wire.specs.Layout.{frame_of, frame_len}
-use Rattle.can_mac.specs.declared.event.Event.TheVariants.{Sent, Error, Overload, WentOff, Recovered}
-use Rattle.can_mac.specs.declared.event.ErrorKind.TheVariants.{Bit}
+use Rattle.can_terms.specs.declared.event.Event.TheVariants.{Sent, Error, Overload, WentOff, Recovered}
+use Rattle.can_terms.specs.declared.event.ErrorKind.TheVariants.{Bit}
 use Rattle.can_mac.specs.declared.phase.Phase.TheVariants.{Joining, StuffedPart, EndOfFrame, ErrorFlag, PassiveFlag, OverloadFlag, AfterFlag, Intermission, Suspend, BusOff}
 use Rattle.can_mac.specs.State.{MacState, idle, joining}
 use Rattle.can_mac.specs.Moves.{agrees}

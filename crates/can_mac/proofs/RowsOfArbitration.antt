@@ -10,8 +10,8 @@ use Rattle.can_wire.specs.Crc.{crc_of}
 use Rattle.can_wire.specs.Wire.{head, unstuffed}
 use Rattle.can_wire.specs.Layout.{frame_of, frame_len}
 use Rattle.can_fault.specs.Counters.{ConfineParts, fresh}
-use Rattle.can_mac.specs.declared.event.Event.TheVariants.{Received, Lost, Error}
-use Rattle.can_mac.specs.declared.event.ErrorKind.TheVariants.{Bit, Stuff}
+use Rattle.can_terms.specs.declared.event.Event.TheVariants.{Received, Lost, Error}
+use Rattle.can_terms.specs.declared.event.ErrorKind.TheVariants.{Bit, Stuff}
 use Rattle.can_mac.specs.declared.phase.Role.{Role}
 use Rattle.can_mac.specs.declared.phase.Role.TheVariants.{Receiver, Sender}
 use Rattle.can_mac.specs.declared.phase.Phase.TheVariants.{CrcDelimiter}

@@ -3,8 +3,8 @@
 use Rattle.std.proofs.Common.{◌≡◌, [], ◌∷◌, map, replicate, Some, None, refl, false, true}
 use Rattle.std.specs.Prelude.{codes}
 use Rattle.can_frame.specs.declared.level.Level.TheVariants.{Dominant, Recessive}
-use Rattle.can_mac.specs.declared.event.Event.TheVariants.{Sent, Error, Overload}
-use Rattle.can_mac.specs.declared.event.ErrorKind.TheVariants.{Bit, Form}
+use Rattle.can_terms.specs.declared.event.Event.TheVariants.{Sent, Error, Overload}
+use Rattle.can_terms.specs.declared.event.ErrorKind.TheVariants.{Bit, Form}
 use Rattle.can_mac.specs.declared.phase.Phase.TheVariants.{CrcDelimiter, EndOfFrame, ErrorFlag, PassiveFlag, OverloadFlag, AfterFlag, Delimiter, Intermission}
 use Rattle.can_mac.specs.State.{idle}
 use Rattle.can_mac.specs.Machine.{holding, mac_drives, mac_step}

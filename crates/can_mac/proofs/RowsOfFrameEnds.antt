@@ -8,8 +8,8 @@ use Rattle.can_frame.specs.Arbitration.{arbitration_field}
 use Rattle.can_wire.specs.Crc.{crc_of}
 use Rattle.can_wire.specs.Wire.{head, unstuffed}
 use Rattle.can_wire.specs.Layout.{frame_of, frame_len}
-use Rattle.can_mac.specs.declared.event.Event.TheVariants.{Sent, Received, Error, Overload}
-use Rattle.can_mac.specs.declared.event.ErrorKind.TheVariants.{Bit, Crc, Form, Ack}
+use Rattle.can_terms.specs.declared.event.Event.TheVariants.{Sent, Received, Error, Overload}
+use Rattle.can_terms.specs.declared.event.ErrorKind.TheVariants.{Bit, Crc, Form, Ack}
 use Rattle.can_mac.specs.declared.phase.Phase.TheVariants.{CrcDelimiter, AckSlot, AckDelimiter, EndOfFrame, ErrorFlag, PassiveFlag, OverloadFlag, AfterFlag, Intermission}
 use Rattle.can_mac.specs.State.{idle}
 use Rattle.can_mac.specs.Moves.{agrees}

@@ -2,7 +2,7 @@
 use Rattle.std.proofs.Common.{List, [], ◌∷◌, map, Option}
 use Rattle.can_frame.specs.declared.level.Level.{Level}
 use Rattle.can_frame.specs.Parts.{Parts}
-use Rattle.can_mac.specs.declared.event.Event.{Event}
+use Rattle.can_terms.specs.declared.event.Event.{Event}
 use Rattle.can_mac.specs.State.{MacState}
 use Rattle.can_mac.specs.Machine.{mac_step}
 

@@ -3,6 +3,5 @@ pub mod State
 pub mod Moves
 pub mod Machine
 pub mod Frames
-pub mod Codes
 -- For speed: which levels the fast paths take
 pub mod Quick

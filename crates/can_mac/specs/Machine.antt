@@ -10,8 +10,8 @@ use Rattle.can_code.specs.Front.{FrontParts}
 use Rattle.can_fault.specs.declared.cause.Cause.{Cause}
 use Rattle.can_fault.specs.Counters.{ConfineParts, counted, is_bus_off, is_passive}
 use Rattle.can_fault.specs.Recovery.{ends_bus_off, recovered}
-use Rattle.can_mac.specs.declared.event.Event.{Event}
-use Rattle.can_mac.specs.declared.event.Event.TheVariants.{WentOff, Recovered}
+use Rattle.can_terms.specs.declared.event.Event.{Event}
+use Rattle.can_terms.specs.declared.event.Event.TheVariants.{WentOff, Recovered}
 use Rattle.can_mac.specs.declared.moves.Stance.{Stance}
 use Rattle.can_mac.specs.declared.phase.Role.{Role}
 use Rattle.can_mac.specs.declared.phase.Role.TheVariants.{Receiver, Sender}

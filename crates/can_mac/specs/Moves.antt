@@ -14,10 +14,10 @@ use Rattle.can_wire.specs.Layout.{frame_of, head_of, check_of, rtr_place}
 use Rattle.can_code.specs.Front.{FrontParts, first_front, has_check, heard_level}
 use Rattle.can_fault.specs.declared.cause.Cause.{Cause}
 use Rattle.can_fault.specs.declared.cause.Cause.TheVariants.{ReceiverError, ReceiverFlagBit, ReceiverFirstDominant, ReceiverDominantRun, SenderError, SenderFlagBit, SenderDominantRun, PassiveUnacknowledged, FrameSent, FrameReceived}
-use Rattle.can_mac.specs.declared.event.Event.{Event}
-use Rattle.can_mac.specs.declared.event.Event.TheVariants.{Sent, Received, Lost, Error, Overload}
-use Rattle.can_mac.specs.declared.event.ErrorKind.{ErrorKind}
-use Rattle.can_mac.specs.declared.event.ErrorKind.TheVariants.{Bit, Stuff, Crc, Form, Ack}
+use Rattle.can_terms.specs.declared.event.Event.{Event}
+use Rattle.can_terms.specs.declared.event.Event.TheVariants.{Sent, Received, Lost, Error, Overload}
+use Rattle.can_terms.specs.declared.event.ErrorKind.{ErrorKind}
+use Rattle.can_terms.specs.declared.event.ErrorKind.TheVariants.{Bit, Stuff, Crc, Form, Ack}
 use Rattle.can_mac.specs.declared.moves.Move.{Move}
 use Rattle.can_mac.specs.declared.moves.Stance.{Stance}
 use Rattle.can_mac.specs.declared.phase.Reading.{Reading}

@@ -1,5 +1,5 @@
 -- The state of a controller's medium access. (docs/ACCESS.md, "Medium access")
-use Rattle.std.specs.Prelude.{◌≡◌, ◌≢◌, ◌<◌, ◌≤◌, Bool, true, false, Option, Some, None}
+use Rattle.std.specs.Prelude.{ℕ, ◌≡◌, ◌≢◌, ◌<◌, ◌≤◌, Bool, true, false, length, Option, Some, None}
 use Rattle.can_frame.specs.Parts.{Parts, IsFrame}
 use Rattle.can_frame.specs.IdleRow.{idle_row}
 use Rattle.can_code.specs.declared.front.Place.TheVariants.{CrcDelimiter as ended}
@@ -10,6 +10,8 @@ use Rattle.can_mac.specs.declared.phase.Phase.TheVariants.{Joining, Idle, Stuffe
 use Rattle.can_mac.specs.declared.phase.Role.{Role}
 use Rattle.can_mac.specs.declared.phase.Role.TheVariants.{Receiver, Sender}
 use Rattle.can_mac.specs.declared.phase.Overloads.{Overloads}
+use Rattle.can_terms.specs.declared.phase_kind.PhaseKind.{PhaseKind}
+use Rattle.can_terms.specs.declared.phase_kind.PhaseKind.TheVariants as kind
 
 -- the phase of a controller; in the stuffed part it has the front received so far
 abbrev pub MacPhase : Type 0
@@ -37,6 +39,50 @@ idle = starting Idle
 -- a controller that joins the bus, with all counts 0
 abbrev pub joining : MacState
 joining = starting (Joining 0)
+
+-- the phase without its contents
+abbrev pub phase_kind : {F : Type 0} → Phase F → PhaseKind
+phase_kind (Joining row) = kind.Joining
+phase_kind Idle = kind.Idle
+phase_kind (StuffedPart front) = kind.StuffedPart
+phase_kind (CrcDelimiter r) = kind.CrcDelimiter
+phase_kind (AckSlot r) = kind.AckSlot
+phase_kind (AckDelimiter r) = kind.AckDelimiter
+phase_kind (EndOfFrame r place) = kind.EndOfFrame
+phase_kind (ErrorFlag place) = kind.ErrorFlag
+phase_kind (PassiveFlag last run unacknowledged) = kind.PassiveFlag
+phase_kind (OverloadFlag place) = kind.OverloadFlag
+phase_kind (AfterFlag first dominant) = kind.AfterFlag
+phase_kind (Delimiter place) = kind.Delimiter
+phase_kind (Intermission place) = kind.Intermission
+phase_kind (Suspend place) = kind.Suspend
+phase_kind BusOff = kind.BusOff
+
+-- how many levels of the phase have passed, as each phase counts them; during bus-off, how many sequences of eleven
+-- recessive levels; 0 in a phase of one level, and when idle (docs/NAMES.md)
+abbrev pub phase_place : MacPhase → ℕ → ℕ
+phase_place (Joining row) sequences = row
+phase_place Idle sequences = 0
+phase_place (StuffedPart front) sequences = length front.unstuffed
+phase_place (CrcDelimiter r) sequences = 0
+phase_place (AckSlot r) sequences = 0
+phase_place (AckDelimiter r) sequences = 0
+phase_place (EndOfFrame r place) sequences = place
+phase_place (ErrorFlag place) sequences = place
+phase_place (PassiveFlag last run unacknowledged) sequences = run
+phase_place (OverloadFlag place) sequences = place
+phase_place (AfterFlag first dominant) sequences = dominant
+phase_place (Delimiter place) sequences = place
+phase_place (Intermission place) sequences = place
+phase_place (Suspend place) sequences = place
+phase_place BusOff sequences = sequences
+
+-- the phase of a controller, and how far it has got in it
+abbrev pub kind_of : MacState → PhaseKind
+kind_of m = phase_kind m.phase
+
+abbrev pub place_of : MacState → ℕ
+place_of m = phase_place m.phase m.counters.occurrences
 
 -- the phase is bus off
 abbrev pub is_off_phase : MacPhase → Bool

@@ -5,7 +5,7 @@ ghost use Rattle.can_frame.specs.Arbitration.{arbitration_field, Before};
 ghost use Rattle.can_frame.specs.Parts.{IsFrame, Parts};
 ghost use Rattle.can_wire.specs.Crc.{Multiple};
 ghost use Rattle.can_wire.specs.Layout.{frame_len, level_at, IsPart};
-ghost use Rattle.can_mac.specs.declared.event.Event.TheVariants.{Lost};
+ghost use Rattle.can_terms.specs.declared.event.Event.TheVariants.{Lost};
 ghost use Rattle.can_mac.specs.declared.phase.Phase.TheVariants.{CrcDelimiter, Idle};
 ghost use Rattle.can_mac.specs.declared.phase.Role.TheVariants.{Receiver, Sender};
 ghost use Rattle.can_mac.specs.Frames.{AreHeard, driven_at, frame_drives, frame_event, frame_state, with_intermission, PartsAt, phase_at, role_at, slot_place, StartsWith, state_after, told_at};

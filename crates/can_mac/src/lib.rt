@@ -2,11 +2,11 @@
 //! (Bosch CAN 2.0 part B, sections 3.2, 5, 7 and 8)
 //!
 //! [`MediumAccess`] has no queue: in each bit time it is given the pending frame, if there is one. It reports at most
-//! one [`Event`] in a bit time. [`Phase`] has a diagram of the phases; docs/ACCESS.md has the rules.
+//! one [`Event`] in a bit time. [`Phase`] has a diagram of the phases; docs/ACCESS.md has the rules. Events, and the
+//! phases' names, are those of can_terms.
 //!
 //! | File | What it has | Defined in |
 //! |---|---|---|
-//! | `event.rt` | [`Event`], [`ErrorKind`] | `specs/Codes.antt` |
 //! | `phase.rt` | [`Phase`], [`Role`], [`Overloads`], the parts of a controller's state | `specs/State.antt` |
 //! | `machine.rt` | [`MediumAccess`], a controller, bit by bit | `specs/Machine.antt` |
 //! | `step.rt` | one level on the bus: the transition, its error counters and its event | `specs/Machine.antt` |
@@ -35,7 +35,6 @@
 
 mod copying;
 mod driving;
-mod event;
 mod laws;
 mod machine;
 mod moves;
@@ -43,7 +42,7 @@ mod phase;
 mod poised;
 mod step;
 
-pub use event::{ErrorKind, Event};
+pub use can_terms::{ErrorKind, Event};
 pub use laws::{
     a_frame_leads_all_to_one_phase, a_loser_goes_on_as_a_receiver, a_sender_drives_its_wire,
     access_is_kept, agreement_is_divisibility,

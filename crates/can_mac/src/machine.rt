@@ -3,7 +3,7 @@ ghost use Rattle.std.specs.Option.{option_copied};
 ghost use Rattle.can_code.specs.Front.{FrontParts};
 ghost use Rattle.can_frame.specs.Parts.{Parts};
 ghost use Rattle.can_fault.specs.Counters.{counted, is_bus_off, is_passive as is_passive_by};
-ghost use Rattle.can_mac.specs.State.{idle as idle_state, IsMac, IsPhase, IsFrameOrNone, is_off_phase, joining as joining_state, starting};
+ghost use Rattle.can_mac.specs.State.{idle as idle_state, IsMac, IsPhase, IsFrameOrNone, is_off_phase, joining as joining_state, place_of, starting};
 ghost use Rattle.can_mac.specs.Frames.{IsBehindError, IsOutOfStep, IsPoised, IsPoisedAs, behind_frame, receiving_in};
 ghost use Rattle.can_mac.specs.Moves.{move, move_keeping};
 ghost use Rattle.can_mac.specs.Quick.{is_quiet_level, is_silent_level, stays_off};
@@ -11,7 +11,6 @@ ghost use Rattle.can_mac.specs.Machine.{holding, IsSilent, mac_drives, mac_step,
 
 use crate::copying::phase_copied;
 use crate::driving::level_of_phase;
-use crate::event::Event;
 use crate::moves::MOST_OVERLOADS;
 use crate::moves::flags::LAST_OF_DELIMITER;
 use crate::moves::shortcuts::{goes_on_quietly, goes_on_silently, hears_on_silently};
@@ -21,6 +20,7 @@ use crate::step::{is_passive, make_in_place, make_move};
 use can_code::{CheckedBits, FrameBits, Front, PlainBits, Sending};
 use can_fault::{Cause, Confine, State};
 use can_frame::{Frame, Level};
+use can_terms::Event;
 use std::marker::Model;
 
 /// With this many occurrences of eleven recessive levels, the next one ends bus off.
@@ -108,6 +108,27 @@ impl<B: FrameBits> MediumAccess<B> {
         ensures longest { (front : FrontParts) → self.now.phase ≡ Phase.StuffedPart front → length front.unstuffed ≤ 118 }
     {
         level_of_phase(&self.phase, &self.role, waiting)
+    }
+
+    /// How far the controller has got in its phase: levels, without stuff bits; during bus-off, sequences of eleven
+    /// recessive levels; 0 in a phase of one level, and when idle. (docs/NAMES.md)
+    pub fn place(&self) -> u8
+        ensures { result ≡ place_of self.now }
+    {
+        match &self.phase {
+            Phase::Idle | Phase::CrcDelimiter(_) | Phase::AckSlot(_) | Phase::AckDelimiter(_) => 0,
+            Phase::Joining { row } => *row,
+            Phase::StuffedPart(front) => front.len() as u8,
+            Phase::EndOfFrame { place, .. }
+            | Phase::ErrorFlag { place }
+            | Phase::OverloadFlag { place }
+            | Phase::Delimiter { place }
+            | Phase::Intermission { place }
+            | Phase::Suspend { place } => *place,
+            Phase::PassiveFlag { run, .. } => *run,
+            Phase::AfterFlag { dominant, .. } => *dominant,
+            Phase::BusOff => self.confine.occurrences(),
+        }
     }
 
     /// Takes the level of the bus in this bit time, and returns the event, if there is one. The controller drove what

@@ -14,12 +14,12 @@ ghost use Rattle.can_mac.specs.State.{IsPhase};
 ghost use Rattle.can_mac.specs.Moves.{begins_frame, enters_intermission, errs, errs_by, errs_in_flag, flag, goes, is_held_back, move, overload, phase_after, move_keeping, tells};
 ghost use Rattle.can_mac.specs.declared.phase.Phase.TheVariants.{StuffedPart};
 
-use crate::event::{ErrorKind, Event};
 use crate::phase::{Overloads, Phase, Role};
 use between_frames::{idle, intermission, joining, suspend};
 use can_code::{FrameBits, Front};
 use can_fault::Cause;
 use can_frame::{Frame, Level};
+use can_terms::{ErrorKind, Event};
 use flags::{after_flag, delimiter, error_flag, overload_flag, passive_flag};
 use frame_end::{ack_delimiter, ack_slot, crc_delimiter, end_of_frame};
 use std::marker::Model;

@@ -1,10 +1,11 @@
 ghost use Rattle.std.specs.Prelude.{◌≡◌};
 ghost use Rattle.can_mac.specs.Moves.{error_cause, flag_bit_cause, form_kind};
+ghost use Rattle.can_mac.specs.State.{is_sender, phase_kind};
 
-use crate::event::ErrorKind;
 use can_code::Sending;
 use can_fault::Cause;
 use can_frame::{Frame, Level};
+use can_terms::{ErrorKind, PhaseKind};
 
 /// The frame that the stuffed part encodes, once it is complete.
 #[derive(Clone, Copy, Debug)]
@@ -111,7 +112,39 @@ pub struct Overloads {
     pub used: u8,
 }
 
+impl<F> Phase<F> {
+    /// The phase without its contents.
+    pub fn kind(&self) -> PhaseKind
+        ensures { result ≡ phase_kind self.now }
+    {
+        match self {
+            Phase::Joining { .. } => PhaseKind::Joining,
+            Phase::Idle => PhaseKind::Idle,
+            Phase::StuffedPart(_) => PhaseKind::StuffedPart,
+            Phase::CrcDelimiter(_) => PhaseKind::CrcDelimiter,
+            Phase::AckSlot(_) => PhaseKind::AckSlot,
+            Phase::AckDelimiter(_) => PhaseKind::AckDelimiter,
+            Phase::EndOfFrame { .. } => PhaseKind::EndOfFrame,
+            Phase::ErrorFlag { .. } => PhaseKind::ErrorFlag,
+            Phase::PassiveFlag { .. } => PhaseKind::PassiveFlag,
+            Phase::OverloadFlag { .. } => PhaseKind::OverloadFlag,
+            Phase::AfterFlag { .. } => PhaseKind::AfterFlag,
+            Phase::Delimiter { .. } => PhaseKind::Delimiter,
+            Phase::Intermission { .. } => PhaseKind::Intermission,
+            Phase::Suspend { .. } => PhaseKind::Suspend,
+            Phase::BusOff => PhaseKind::BusOff,
+        }
+    }
+}
+
 impl Role {
+    /// Whether this is the transmitter of the frame on the bus.
+    pub fn is_sender(&self) -> bool
+        ensures { result ≡ is_sender self.now }
+    {
+        matches!(self, Role::Sender(_))
+    }
+
     /// The cause of an error in a frame or in a delimiter.
     pub(crate) fn error_cause(&self) -> Cause
         ensures { result ≡ error_cause self.now }

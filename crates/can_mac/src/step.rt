@@ -8,13 +8,13 @@ ghost use Rattle.can_mac.specs.Machine.{on_step, stance as stance_of, step_count
 ghost use Rattle.can_mac.specs.Moves.{move, move_keeping};
 ghost use Rattle.can_mac.specs.State.{IsFrameOrNone, IsMac, MacState, is_off_phase};
 
-use crate::event::Event;
 use crate::moves::shortcuts::move_in_place;
 use crate::moves::{Hearing, Move, Stance, enter, next_move};
 use crate::phase::{Overloads, Phase, Role};
 use can_code::{FrameBits, Front};
 use can_fault::{Cause, Confine, State};
 use can_frame::{Frame, Level};
+use can_terms::Event;
 
 /// Makes a transition of a frame without errors in place, and returns its event. On any other level it returns
 /// `None`, and nothing changes.

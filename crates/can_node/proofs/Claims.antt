@@ -2,7 +2,7 @@
 use Rattle.std.proofs.Common.{◌≡◌, ℕ, ◌<◌, false, Option, List, [], subst, sym, ◌∙◌}
 use Rattle.std.proofs.lemmas.Bool.{leb-false}
 use Rattle.can_frame.specs.declared.level.Level.{Level}
-use Rattle.can_mac.specs.declared.event.Event.{Event}
+use Rattle.can_terms.specs.declared.event.Event.{Event}
 use Rattle.can_mac.specs.declared.phase.Phase.TheVariants.{Joining, Idle}
 use Rattle.can_mac.specs.State.{MacState, IsMac, is_off_phase}
 use Rattle.can_mac.proofs.Turns.{levels_of, turn_events}

@@ -11,7 +11,7 @@ use Rattle.can_frame.specs.Arbitration.{arbitration_field, Before}
 use Rattle.can_wire.specs.Layout.{level_at}
 use Rattle.can_wire.specs.Wire.{stuffed_part}
 use Rattle.can_fault.specs.Counters.{ConfineParts}
-use Rattle.can_mac.specs.declared.event.Event.TheVariants.{Sent, Received}
+use Rattle.can_terms.specs.declared.event.Event.TheVariants.{Sent, Received}
 use Rattle.can_mac.specs.declared.phase.Role.{Role}
 use Rattle.can_mac.specs.declared.phase.Role.TheVariants.{Receiver, Sender}
 use Rattle.can_mac.specs.State.{MacState, IsFrameOrNone}

@@ -8,8 +8,8 @@ use Rattle.can_frame.specs.declared.level.Level.TheVariants.{Dominant, Recessive
 use Rattle.can_frame.specs.Parts.{Parts}
 use Rattle.can_fault.specs.Counters.{ConfineParts, fresh, is_bus_off}
 use Rattle.can_fault.specs.Recovery.{after_level, ends_bus_off, recovered}
-use Rattle.can_mac.specs.declared.event.Event.{Event}
-use Rattle.can_mac.specs.declared.event.Event.TheVariants.{Recovered}
+use Rattle.can_terms.specs.declared.event.Event.{Event}
+use Rattle.can_terms.specs.declared.event.Event.TheVariants.{Recovered}
 use Rattle.can_mac.specs.declared.phase.Phase.TheVariants.{Idle, BusOff}
 use Rattle.can_mac.specs.State.{MacState, is_off_phase}
 use Rattle.can_mac.specs.Machine.{stance, off_step, mac_step}

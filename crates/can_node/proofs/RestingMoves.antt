@@ -10,7 +10,7 @@ use Rattle.can_code.specs.Sending.{sent_level}
 use Rattle.can_code.specs.Front.{FrontParts}
 use Rattle.can_fault.specs.declared.cause.Cause.{Cause}
 use Rattle.can_fault.specs.Counters.{ConfineParts, is_bus_off}
-use Rattle.can_mac.specs.declared.event.ErrorKind.{ErrorKind}
+use Rattle.can_terms.specs.declared.event.ErrorKind.{ErrorKind}
 use Rattle.can_mac.specs.declared.phase.Role.{Role}
 use Rattle.can_mac.specs.declared.phase.Role.TheVariants.{Receiver, Sender}
 use Rattle.can_mac.specs.declared.phase.Reading.{Reading}

@@ -9,8 +9,8 @@ use Rattle.can_frame.specs.Parts.{Parts}
 use Rattle.can_wire.specs.Crc.{crc_of}
 use Rattle.can_wire.specs.Wire.{head, unstuffed}
 use Rattle.can_wire.specs.Layout.{frame_of, frame_len}
-use Rattle.can_mac.specs.declared.event.Event.TheVariants.{Sent, Received, Lost, Error, Overload, WentOff, Recovered}
-use Rattle.can_mac.specs.declared.event.ErrorKind.TheVariants.{Ack}
+use Rattle.can_terms.specs.declared.event.Event.TheVariants.{Sent, Received, Lost, Error, Overload, WentOff, Recovered}
+use Rattle.can_terms.specs.declared.event.ErrorKind.TheVariants.{Ack}
 use Rattle.can_mac.specs.declared.phase.Phase.TheVariants.{BusOff}
 use Rattle.can_mac.specs.State.{idle}
 use Rattle.can_mac.specs.Moves.{agrees}

@@ -37,7 +37,9 @@ winner_at winners slots node = if nat_lt node (length winners) then get_or winne
 
 -- the winner at a node is that of its children 2 n and 2 n + 1
 abbrev pub IsPlayedAt : List (Option Entrant) → List (Option Parts) → ℕ → Type 0
-IsPlayedAt winners slots node = winner_at winners slots node ≡ earlier_of (winner_at winners slots (2 * node)) (winner_at winners slots (2 * node + 1))
+IsPlayedAt winners slots node =
+    winner_at winners slots node ≡ earlier_of (winner_at winners slots (2 * node))
+    (winner_at winners slots (2 * node + 1))
 
 -- each node below the width has the winner of its children
 abbrev pub IsPlayed : List (Option Entrant) → List (Option Parts) → Type 0
@@ -45,7 +47,9 @@ IsPlayed winners slots = (node : ℕ) → 1 ≤ node → node < length winners �
 
 -- each node has the winner of its children, except the parent of this one
 abbrev pub IsPlayedBut : ℕ → List (Option Entrant) → List (Option Parts) → Type 0
-IsPlayedBut below winners slots = (node : ℕ) → 1 ≤ node → node < length winners → 2 * node ≢ below → 2 * node + 1 ≢ below → IsPlayedAt winners slots node
+IsPlayedBut below winners slots =
+    (node : ℕ) → 1 ≤ node → node < length winners → 2 * node ≢ below → 2 * node + 1 ≢ below
+    → IsPlayedAt winners slots node
 
 -- the second node is the first, or a descendant of it
 pub data Under : ℕ → ℕ → Type 0 where
@@ -59,7 +63,8 @@ has_field field f = is_equal (field_cmp field (arbitration_field f))
 
 -- no slot under a node has a frame of this field
 abbrev pub NoneUnder : ℕ → ℕ → List (Option Parts) → List Level → Type 0
-NoneUnder node width slots field = (place : ℕ) (f : Parts) → Under node (width + place) → get_or slots place None ≡ Some f → has_field field f ≡ false
+NoneUnder node width slots field =
+    (place : ℕ) (f : Parts) → Under node (width + place) → get_or slots place None ≡ Some f → has_field field f ≡ false
 
 -- the frame at this place has this field, and none before it under the node has
 pub record IsFirstUnder (node width : ℕ) (slots : List (Option Parts)) (field : List Level) (place : ℕ) : Type 0 where

@@ -3,7 +3,7 @@ ghost use Rattle.can_node.specs.Ports.{port_drives, port_event, port_step};
 
 use crate::port::Port;
 use can_frame::Level;
-use can_mac::Event;
+use can_terms::Event;
 
 /// What a port does in one bit time: the level that it drives, and its event.
 type Answer = (Level, Option<Event>);

@@ -10,7 +10,8 @@ use crate::node::{PackedNode, PlainNode};
 use crate::port::Port;
 use can_fault::State;
 use can_frame::{Frame, Level};
-use can_mac::{Event, Poised};
+use can_mac::Poised;
+use can_terms::Event;
 
 /// A port of one of the two kinds, with the outputs of the node in it.
 #[derive(Drop)]

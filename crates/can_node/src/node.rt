@@ -17,7 +17,8 @@ use crate::queue::Queue;
 use can_code::{CheckedBits, FrameBits, PlainBits, rtr_place};
 use can_fault::State;
 use can_frame::{Frame, Level};
-use can_mac::{Event, MediumAccess, Phase, Poised};
+use can_mac::{MediumAccess, Phase, Poised};
+use can_terms::Event;
 use std::alloc::{AllocError, Global};
 
 /// A port that allocates all of its memory when it is made: no later call allocates, or fails because memory is
@@ -92,7 +93,7 @@ impl<B: FrameBits> Node<B> {
 
 impl<B: FrameBits> Node<B> {
     ghost use Rattle.std.specs.Prelude.{if◌then◌else◌};
-    ghost use Rattle.can_mac.specs.declared.event.Event.TheVariants.{Sent, Received};
+    ghost use Rattle.can_terms.specs.declared.event.Event.TheVariants.{Sent, Received};
     ghost use Rattle.can_node.specs.Passing.{LetsPass};
     ghost use Rattle.can_node.specs.Ports.{port_drives, port_noting, port_event, port_run, port_step};
 

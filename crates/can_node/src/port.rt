@@ -11,7 +11,8 @@ ghost use Rattle.can_node.specs.Ports.{PortState, IsAtRest, IsPort, port_offered
 use crate::entry::Entry;
 use can_fault::State;
 use can_frame::{Frame, Level};
-use can_mac::{Event, Poised};
+use can_mac::Poised;
+use can_terms::Event;
 
 /// A port of a bus, that is, a CAN node: a controller with a queue of frames to send and a log of the frames that it
 /// sent and received.

@@ -7,7 +7,8 @@ use Rattle.can_page.specs.declared.answer.Answer.TheVariants.{BadIdentifier, Bad
 
 -- the parts of a frame
 abbrev pub parts_of : ℕ → Bool → Bool → ℕ → List ℕ → Parts
-parts_of raw extended remote dlc bytes = record { id = record { raw = raw; extended = extended }; remote = remote; dlc = dlc; bytes = bytes }
+parts_of raw extended remote dlc bytes =
+    record { id = record { raw = raw; extended = extended }; remote = remote; dlc = dlc; bytes = bytes }
 
 -- The first reason why parts are not those of a frame: the identifier is tested before the DLC, and the DLC before the
 -- number of data bytes.

@@ -1,15 +1,11 @@
 -- The plain fields for what a port does in a bit time, and for what is wrong in a scenario or a network.
 use Rattle.std.specs.Prelude.{ℕ, List, map}
-use Rattle.can_mac.specs.Codes.{kind_code}
+use Rattle.can_terms.specs.Codes.{code_of_kind, phase_code}
 use Rattle.can_plan_text.specs.declared.field.MessageField.{MessageField}
 use Rattle.can_plan_text.specs.declared.field.MessageField.TheVariants as of_message
 use Rattle.can_plan_text.specs.declared.field.PlanField.{PlanField}
 use Rattle.can_plan_text.specs.declared.field.PlanField.TheVariants as plan
-use Rattle.can_port_times.specs.declared.port_times.Brought.{Brought}
-use Rattle.can_port_times.specs.declared.port_times.Brought.TheVariants as bring
-use Rattle.can_port_times.specs.declared.port_times.PortTime.{PortTime}
-use Rattle.can_port_times.specs.declared.port_times.Stage.{Stage}
-use Rattle.can_port_times.specs.declared.port_times.Stage.TheVariants as stage
+use Rattle.can_trace.specs.declared.port_times.PortTime.{PortTime}
 use Rattle.can_stream.specs.declared.field.Field.{Field}
 use Rattle.can_stream.specs.declared.field.Field.TheVariants as field
 use Rattle.can_stream.specs.declared.field.HitList.{HitList}
@@ -23,45 +19,16 @@ use Rattle.can_page.specs.declared.plain.WrongField.{WrongField}
 
 -- ---- a port in a bit time
 
--- the number of a phase
-abbrev pub stage_code : Stage → ℕ
-stage_code stage.Idle = 0
-stage_code stage.Joining = 1
-stage_code stage.StuffedPart = 2
-stage_code stage.CrcDelimiter = 3
-stage_code stage.AckSlot = 4
-stage_code stage.AckDelimiter = 5
-stage_code stage.EndOfFrame = 6
-stage_code stage.ErrorFlag = 7
-stage_code stage.PassiveFlag = 8
-stage_code stage.OverloadFlag = 9
-stage_code stage.AfterFlag = 10
-stage_code stage.Delimiter = 11
-stage_code stage.Intermission = 12
-stage_code stage.Suspend = 13
-stage_code stage.BusOff = 14
-
--- the number of an event
-abbrev pub brought_code : Brought → ℕ
-brought_code bring.Nothing = 0
-brought_code bring.Sent = 1
-brought_code bring.Received = 2
-brought_code bring.Lost = 3
-brought_code (bring.Error kind) = kind_code kind
-brought_code bring.Overload = 9
-brought_code bring.WentOff = 10
-brought_code bring.Recovered = 11
-
 -- the plain fields of a bit time of a port
 abbrev pub plain_time : PortTime → PlainTime
 plain_time time = record {
   transmit = time.transmit;
   receive = time.receive;
-  stage = stage_code time.stage;
+  phase = phase_code time.phase;
   sends = from_bool time.sends;
   drove = level_code time.drove;
   saw = level_code time.saw;
-  brought = brought_code time.brought;
+  event = code_of_kind time.event;
 }
 
 -- the plain fields of bit times

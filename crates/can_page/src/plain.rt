@@ -1,10 +1,10 @@
 //! What a port does in a bit time, and what is wrong in a scenario or a network, as plain fields.
 ghost use Rattle.std.specs.Prelude.{◌≡◌};
-ghost use Rattle.can_page.specs.Plain.{brought_code as brought_code_of, plain_time, stage_code as stage_code_of, wrong_at, wrong_field, wrong_hit, wrong_in_message, wrong_in_plan, wrong_in_port, wrong_list};
+ghost use Rattle.can_page.specs.Plain.{plain_time, wrong_at, wrong_field, wrong_hit, wrong_in_message, wrong_in_plan, wrong_in_port, wrong_list};
 
 use can_plan_text::{MessageField, PlanField};
-use can_port_times::{Brought, PortTime, Stage};
-use can_trace::{Field, HitList, PortField};
+use can_terms::EventKind;
+use can_trace::{Field, HitList, PortField, PortTime};
 
 /// What a port does in a bit time.
 #[repr(C)]
@@ -15,7 +15,7 @@ pub struct PlainTime {
     /// The receive error counter at the beginning of the bit time.
     pub receive: u16,
     /// The number of its phase.
-    pub stage: u8,
+    pub phase: u8,
     /// 1 if it is the transmitter of the frame on the bus, otherwise 0.
     pub sends: u8,
     /// The number of the level that it drives.
@@ -23,7 +23,7 @@ pub struct PlainTime {
     /// The number of the level that it samples.
     pub saw: u8,
     /// The number of the event of the bit time.
-    pub brought: u8,
+    pub event: u8,
 }
 
 /// What is wrong in a scenario or a network.
@@ -46,11 +46,11 @@ impl PlainTime {
         PlainTime {
             transmit: time.transmit,
             receive: time.receive,
-            stage: stage_code(time.stage),
+            phase: time.phase.code(),
             sends: u8::from(time.sends),
             drove: time.drove.code(),
             saw: time.saw.code(),
-            brought: brought_code(time.brought),
+            event: EventKind::code_of(time.event),
         }
     }
 }
@@ -159,44 +159,5 @@ impl WrongField {
             element,
             field,
         }
-    }
-}
-
-/// Returns the number of a phase.
-fn stage_code(stage: Stage) -> u8
-    ensures { result ≡ stage_code_of stage }
-{
-    match stage {
-        Stage::Idle => 0,
-        Stage::Joining => 1,
-        Stage::StuffedPart => 2,
-        Stage::CrcDelimiter => 3,
-        Stage::AckSlot => 4,
-        Stage::AckDelimiter => 5,
-        Stage::EndOfFrame => 6,
-        Stage::ErrorFlag => 7,
-        Stage::PassiveFlag => 8,
-        Stage::OverloadFlag => 9,
-        Stage::AfterFlag => 10,
-        Stage::Delimiter => 11,
-        Stage::Intermission => 12,
-        Stage::Suspend => 13,
-        Stage::BusOff => 14,
-    }
-}
-
-/// Returns the number of an event.
-fn brought_code(brought: Brought) -> u8
-    ensures { result ≡ brought_code_of brought }
-{
-    match brought {
-        Brought::Nothing => 0,
-        Brought::Sent => 1,
-        Brought::Received => 2,
-        Brought::Lost => 3,
-        Brought::Error(kind) => kind.code(),
-        Brought::Overload => 9,
-        Brought::WentOff => 10,
-        Brought::Recovered => 11,
     }
 }

@@ -1,8 +1,8 @@
 ghost use Rattle.std.specs.Prelude.{◌≡◌, ◌<◌, ◌≤◌, ◌⊎◌, [], false, true, length, take, IfErr, IfOk, IfSome, IsErrOf, List, Some};
-ghost use Rattle.can_port_times.specs.PortTimes.{AreAllTold, AreTold};
+ghost use Rattle.can_trace.specs.PortTimes.{AreAllTold, AreTold};
 ghost use Rattle.can_trace.specs.Report.{report};
 ghost use Rattle.can_scenario_text.specs.Scenarios.{IsWrongScenarioField, IsScenarioText};
-ghost use Rattle.can_port_times.specs.declared.port_times.PortTime.{PortTime as Told};
+ghost use Rattle.can_trace.specs.declared.port_times.PortTime.{PortTime as Told};
 ghost use Rattle.can_scenario_text.specs.declared.scenario.Scenario.{Scenario as Planned};
 ghost use Rattle.can_stream.specs.declared.field.Field.{Field as Wrong};
 ghost use Rattle.can_page.specs.Answers.{bad_scenario, all_done, no_memory, no_port, no_room};
@@ -12,9 +12,8 @@ ghost use Rattle.can_page.specs.Plain.{plain_times, wrong_field};
 use crate::answer::Answer;
 use crate::lines::Lines;
 use crate::plain::{PlainTime, WrongField};
-use can_port_times::{PortTime, all_told_times, told_times};
 use can_stream::{Sink, TraceFault};
-use can_trace::{Scenario, run_scenario};
+use can_trace::{PortTime, Scenario, all_told_times, run_scenario, told_times};
 use std::alloc::Global;
 
 /// Runs the scenario in this text, and writes its report to `out`. If the text is not a valid scenario, the call writes

@@ -8,7 +8,7 @@ use Rattle.std.proofs.lemmas.Option.{slice_get-map}
 use Rattle.can_frame.specs.Parts.{Parts}
 use Rattle.can_node.specs.declared.entry.Entry.{Entry}
 use Rattle.can_node.specs.Ports.{same_field}
-use Rattle.can_hit.specs.declared.hit.Hit.{Hit}
+use Rattle.can_terms.specs.declared.hit.Hit.{Hit}
 use Rattle.can_bus.specs.Course.{IsCourse, Transmission, and_sent, attempted, ended_by, frames_sent, lasting, over}
 use Rattle.can_bus.specs.CourseWaiting.{sends_of, was_hit}
 use Rattle.can_bus.specs.Quiet.{IsPrefixOf, holds, marked}

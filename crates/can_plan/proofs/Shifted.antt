@@ -8,7 +8,7 @@ use Rattle.can_frame.specs.Arbitration.{arbitration_field}
 use Rattle.can_frame.specs.Parts.{Parts}
 use Rattle.can_wire.specs.Wire.{wire}
 use Rattle.can_node.specs.Ports.{same_field}
-use Rattle.can_hit.specs.declared.hit.Hit.{Hit}
+use Rattle.can_terms.specs.declared.hit.Hit.{Hit}
 use Rattle.can_bus.specs.Course.{IsCourse, Transmission}
 use Rattle.can_bus.specs.CourseWaiting.{AreInTime, of_field, sends_of}
 use Rattle.can_bus.specs.Shifts.{attempt_later, attempts_later, frame_later, frames_later}

@@ -93,4 +93,6 @@ pub record IsLeast (enough : ℕ → Type 0) (least : ℕ) : Type 0 where
 
 -- the length of the busy period; `None` if it is above the limit
 abbrev pub IsBusyPeriod : (ℕ → ℕ) → ℕ → Ranking → Option ℕ → Type 0
-IsBusyPeriod most limit r busy = MatchOption busy ((n : ℕ) → HasBeenFree most r n → limit < n) (λ long. (long ≤ limit) × IsLeast (HasBeenFree most r) long)
+IsBusyPeriod most limit r busy =
+    MatchOption busy ((n : ℕ) → HasBeenFree most r n → limit < n)
+    (λ long. (long ≤ limit) × IsLeast (HasBeenFree most r) long)

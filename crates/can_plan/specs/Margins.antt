@@ -39,7 +39,9 @@ module _ (rate : HitRate) (limit : ℕ) (messages : List Message) (deadlines : L
 -- On every course whose releases keep to the messages, and whose hits keep to the error model, each frame of each message ends within its
 -- deadline.
 abbrev pub EndInTime : HitRate → List Message → List ℕ → Type 0
-EndInTime rate messages deadlines = (place : ℕ) (m : Message) (deadline : ℕ) → slice_get messages place ≡ Some m → slice_get deadlines place ≡ Some deadline →
+EndInTime rate messages deadlines =
+    (place : ℕ) (m : Message) (deadline : ℕ) → slice_get messages place ≡ Some m
+    → slice_get deadlines place ≡ Some deadline →
     EndAlways (most_hits rate) messages m deadline
 
 -- ---- a network under a change
@@ -83,4 +85,5 @@ module _ (strain : Strain) (rate : HitRate) (limit : ℕ) (messages : List Messa
   pub record IsMargin (margin : Margin) : Type 0 where
     pub within : margin.most ≤ most_strain strain rate
     pub exact : (more : ℕ) → more ≤ most_strain strain rate → MeetUnder more ↔ (more ≤ margin.most)
-    pub late : MatchOption margin.late (margin.most ≡ most_strain strain rate) (λ place. (margin.most < most_strain strain rate) × IsFirstUnder (margin.most + 1) place)
+    pub late : MatchOption margin.late (margin.most ≡ most_strain strain rate)
+        (λ place. (margin.most < most_strain strain rate) × IsFirstUnder (margin.most + 1) place)

@@ -6,7 +6,7 @@ use Rattle.can_frame.specs.Arbitration.{arbitration_field}
 use Rattle.can_wire.specs.Wire.{wire}
 use Rattle.can_node.specs.declared.entry.Entry.{Entry}
 use Rattle.can_node.specs.Ports.{IsPort, PortState, same_field}
-use Rattle.can_hit.specs.declared.hit.Hit.{Hit}
+use Rattle.can_terms.specs.declared.hit.Hit.{Hit}
 use Rattle.can_bus.specs.declared.offer.Offer.{Offer}
 use Rattle.can_bus.specs.Course.{Transmission}
 use Rattle.can_bus.specs.CourseWaiting.{of_field}
@@ -19,7 +19,8 @@ use Rattle.can_plan.specs.Messages.{AreHitAtMost, KeepTo, Release, offer_of}
 
 -- A call on a network that keeps to its messages and to the error model: its frames are these releases. Those that wait at the start of
 -- the call are offered at time 0.
-pub record IsPlannedCall (most : ℕ → ℕ) (messages : List Message) (releases : List Release) (offers : List Offer) (hits : List Hit) (bus : BusState) (course : List Transmission) : Type 0 where
+pub record IsPlannedCall (most : ℕ → ℕ) (messages : List Message) (releases : List Release) (offers : List Offer)
+    (hits : List Hit) (bus : BusState) (course : List Transmission) : Type 0 where
   pub call : IsNetworkCall offers hits bus course
   pub same : map offer_of releases ≡ all_offers offers bus.ports
   pub keep : KeepTo messages releases
@@ -47,7 +48,10 @@ LogNames offers releases place r node p q =
     ≡ Some (record { frame = r.frame; sent = holds (frames_of (own_offers offers node p)) r.frame })
 
 -- what is claimed of each release of a message on such a call
-abbrev pub OnPlannedCall : (ℕ → ℕ) → List Message → Message → (List Release → ℕ → Release → List Offer → List Hit → BusState → Type 0) → Type 0
-OnPlannedCall most messages m Claim = (releases : List Release) (offers : List Offer) (hits : List Hit) (bus : BusState) (course : List Transmission) →
-    IsPlannedCall most messages releases offers hits bus course → (place : ℕ) (r : Release) → slice_get releases place ≡ Some r → arbitration_field r.frame ≡ m.field →
+abbrev pub OnPlannedCall : (ℕ → ℕ) → List Message → Message
+    → (List Release → ℕ → Release → List Offer → List Hit → BusState → Type 0) → Type 0
+OnPlannedCall most messages m Claim =
+    (releases : List Release) (offers : List Offer) (hits : List Hit) (bus : BusState) (course : List Transmission) →
+    IsPlannedCall most messages releases offers hits bus course → (place : ℕ) (r : Release)
+    → slice_get releases place ≡ Some r → arbitration_field r.frame ≡ m.field →
     Claim releases place r offers hits bus

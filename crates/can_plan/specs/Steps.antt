@@ -22,7 +22,8 @@ module _ (most : ℕ → ℕ) (block wide : ℕ) (m : Message) (higher : List Me
 
   -- each of the first `count` instances has a delay up to the limit with which its wire ends within the bound
   abbrev pub AllEnd : ℕ → ℕ → ℕ → Type 0
-  AllEnd limit count bound = (q : ℕ) → q < count → (d : ℕ) × (d ≤ limit) × IsEnough q d × (m.jitter + d + m.longest ≤ bound + 3 + q * m.period)
+  AllEnd limit count bound = (q : ℕ) → q < count
+      → (d : ℕ) × (d ≤ limit) × IsEnough q d × (m.jitter + d + m.longest ≤ bound + 3 + q * m.period)
 
   -- the response time of instance q is not the bound
   abbrev pub EndsElse : ℕ → ℕ → ℕ → Type 0

@@ -7,7 +7,7 @@ ghost use Rattle.can_bus.specs.Network.{AllCountAtMost, CourseIsBorne};
 ghost use Rattle.can_bus.specs.Offers.{call_after, call_level};
 ghost use Rattle.can_bus.specs.Quiet.{AtEachNode};
 ghost use Rattle.can_bus.specs.Timed.{TimedParts};
-ghost use Rattle.can_hit.specs.declared.hit.Hit.{Hit as Disturbance};
+ghost use Rattle.can_terms.specs.declared.hit.Hit.{Hit as Disturbance};
 ghost use Rattle.can_plan.specs.declared.margin.Strain.{Strain};
 ghost use Rattle.can_plan.specs.declared.message.HitRate.{HitRate};
 ghost use Rattle.can_plan.specs.declared.message.Message.{Message as Sent};

@@ -51,7 +51,8 @@ deadlines_of planned = map (λ p. p.deadline) planned
 -- the margin of the network for this change; none if a message may miss its deadline without it
 abbrev pub IsMarginOf : Plan → Strain → Option Margin → Type 0
 IsMarginOf plan strain margin =
-    MatchOption margin (¬ MeetDeadlines (hit_rate_of plan.errors) limit (messages_of plan.messages.items) (deadlines_of plan.messages.items))
+    MatchOption margin
+    (¬ MeetDeadlines (hit_rate_of plan.errors) limit (messages_of plan.messages.items) (deadlines_of plan.messages.items))
     (IsMargin strain (hit_rate_of plan.errors) limit (messages_of plan.messages.items) (deadlines_of plan.messages.items))
 
 -- the margins for shorter periods and for more hits
@@ -86,7 +87,8 @@ time_lines rate deadline bound = if rate == 0 then [] else time_line rate deadli
 -- `  before frames 3 bits 366 of S 100 D 7`, and its name: how many frames of a message are sent before one with this delay
 unfoldable pub before_line : ℕ → Planned → List ℕ
 before_line delay p =
-    codes "  before frames " ++ (decimal (arrivals p.message (delay + 1)) ++ (codes " bits " ++ (decimal (arrivals p.message (delay + 1) * p.message.longest) ++
+    codes "  before frames "
+    ++ (decimal (arrivals p.message (delay + 1)) ++ (codes " bits " ++ (decimal (arrivals p.message (delay + 1) * p.message.longest) ++
     (codes " of " ++ (message_head p ++ end_text p.name)))))
 
 -- `  latest frame 1 start 730`
@@ -130,7 +132,8 @@ late_text unit more (Some p) = codes " " ++ (decimal more ++ (unit ++ (codes " l
 
 -- `shorter periods 1 per cent ok`, and the first message that may miss its deadline with one more
 unfoldable pub margin_line : List ℕ → List ℕ → List Planned → Margin → List ℕ
-margin_line word unit planned m = word ++ (decimal m.most ++ (unit ++ (codes " ok" ++ late_text unit (m.most + 1) (planned_at planned m.late))))
+margin_line word unit planned m =
+    word ++ (decimal m.most ++ (unit ++ (codes " ok" ++ late_text unit (m.most + 1) (planned_at planned m.late))))
 
 -- this line, if no message may miss its deadline without the change
 abbrev pub margin_lines : List ℕ → List ℕ → List Planned → Option Margin → List ℕ

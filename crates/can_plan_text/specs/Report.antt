@@ -49,7 +49,8 @@ outcome_text deadline (Some bound) = if nat_lt deadline bound then codes " late"
 
 -- ` bound 246 deadline 312`, and the outcome
 abbrev pub times_text : ℕ → Option ℕ → List ℕ
-times_text deadline bound = codes " bound " ++ (bound_text bound ++ (codes " deadline " ++ (decimal deadline ++ outcome_text deadline bound)))
+times_text deadline bound =
+    codes " bound " ++ (bound_text bound ++ (codes " deadline " ++ (decimal deadline ++ outcome_text deadline bound)))
 
 -- ` name "Speed"`, and the end of the line
 abbrev pub quoted_text : List ℕ → List ℕ

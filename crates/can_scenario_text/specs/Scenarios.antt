@@ -5,9 +5,9 @@ use Rattle.toml.specs.Data.{Data, integer, array, no_items, item}
 use Rattle.document_values.specs.Demands.{Demands, no_demands, demand, followed, demands_on_each, AllMet}
 use Rattle.document_values.specs.Refusals.{IsWrongField}
 use Rattle.document_values.specs.Values.{are_known, elements, elements_in, members_in, named, two, ArePaired, IsArray, IsDocument, IsFrameValue, IsNumber, IsOptional, IsRequired, IsTable, IsTruthValue, IsUpTo, SaysFrame, SaysNumber, SaysWhether}
-use Rattle.can_hit.specs.declared.hit.Hit.{Hit}
-use Rattle.can_hit.specs.declared.hit.Hit.TheVariants as hit
-use Rattle.can_hit.specs.Hits.{is_above, hit_names_port}
+use Rattle.can_terms.specs.declared.hit.Hit.{Hit}
+use Rattle.can_terms.specs.declared.hit.Hit.TheVariants as hit
+use Rattle.can_terms.specs.Hits.{is_above, hit_names_port}
 use Rattle.can_stream.specs.declared.fault.TraceFault.{TraceFault}
 use Rattle.can_stream.specs.declared.fault.TraceFault.TheVariants.{ScenarioField, Memory}
 use Rattle.can_scenario_text.specs.declared.scenario.Scenario.{Scenario}

@@ -1,6 +1,6 @@
 //! Scenarios: a bus with its ports, the frames that are offered to them, and injected bit errors.
 ghost use Rattle.std.specs.Prelude.{◌≤◌, length};
-ghost use Rattle.can_hit.specs.Hits.{AreTaken};
+ghost use Rattle.can_terms.specs.Hits.{AreTaken};
 ghost use Rattle.can_scenario_text.specs.ScenarioProps.{AreTaken-prop};
 
 mod document;
@@ -10,9 +10,9 @@ mod values;
 mod version;
 
 use can_frame::Frame;
-use can_hit::Hit;
 use can_stream::TraceFault;
 pub use can_stream::{Field, HitList, PortField};
+use can_terms::Hit;
 use std::alloc::Global;
 
 /// A bus to run: its 1 to 64 ports, the number of bit times, and the injected bit errors in order.

@@ -1,7 +1,7 @@
 -- A scenario all frames of which have time 0 runs as a bus at which they wait.
 use Rattle.std.specs.Prelude.{slice_get, All}
 use Rattle.std.proofs.Common.{◌≡◌, ℕ, zero, suc, ◌+◌, Some, List, [], ◌∷◌, map, refl, sym, ap, subst, ◌∙◌, arith}
-use Rattle.can_hit.specs.declared.hit.Hit.{Hit}
+use Rattle.can_terms.specs.declared.hit.Hit.{Hit}
 use Rattle.can_bus.specs.declared.offer.Offer.{Offer}
 use Rattle.can_bus.specs.Offers.{all_made, call_after, played, played_level}
 use Rattle.can_bus.specs.OpenBus.{with_first}

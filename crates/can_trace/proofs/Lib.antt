@@ -8,3 +8,4 @@ pub mod QuietReports
 pub mod FirstOffers
 pub mod RoomForAll
 pub mod QuietOrder
+pub mod ToldTimes

@@ -4,6 +4,7 @@ pub mod ScenarioOffers
 pub mod Report
 pub mod QuietReport
 pub mod OpenReport
+pub mod PortTimes
 pub use Rattle.can_stream.specs.Told
 pub use Rattle.can_stream.specs.Wrapped
 pub use Rattle.can_stream.specs.Outbox

@@ -12,7 +12,11 @@
 //! | `offers.rt` | [`offers_in_time`], the offers of a scenario, in the order in which they are made | `specs/ScenarioOffers.antt` |
 //! | `run.rt` | [`run_scenario`]; [`run_to_end`], the run without the report; and its first steps, [`made_port`] and [`offer_all`] | `specs/Report.antt`, `specs/OpenReport.antt`, `specs/QuietReport.antt` |
 //! | `report.rt` | the report of a run, written line by line | `specs/Report.antt` |
+//! | `port_times.rt` | [`told_times`], the state and actions of one port in each bit time, [`PortTime`]s; [`all_told_times`], those of all | `specs/PortTimes.antt` |
 //! | `laws.rt` | that offers have one order, none of them finds a full queue, frames of time 0 are pending at the beginning, and the report of a quiet scenario does not depend on the order in which each port was offered its frames | `specs/ScenarioOffers.antt`, `specs/Report.antt`, `specs/QuietReport.antt` |
+//!
+//! The times of a port are those of the port alone, simulated from the levels that it saw and the frames that it was
+//! offered. `ToldTimes` proves that it does the same as on the bus with the others.
 //!
 //! The bus is run once: without injected bit errors it is played with the offers, with them it runs with the frames
 //! pending. Definitions of other crates can also be named as those of this one, for example
@@ -26,6 +30,7 @@
 
 mod laws;
 mod offers;
+mod port_times;
 mod report;
 mod run;
 
@@ -41,4 +46,5 @@ pub use laws::{
     one_order_of_offers,
 };
 pub use offers::offers_in_time;
+pub use port_times::{PortTime, all_told_times, told_times};
 pub use run::{Ended, made_port, offer_all, run_scenario, run_to_end};

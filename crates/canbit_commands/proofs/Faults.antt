@@ -7,8 +7,8 @@ use Rattle.can_texts.specs.Checked.{ChecksAll}
 use Rattle.can_stream.specs.Told.{Told}
 use Rattle.can_stream.specs.declared.fault.TraceFault.{TraceFault}
 use Rattle.can_stream.specs.declared.fault.TraceFault.TheVariants.{BadByte, ScenarioField, Read, Write, Memory, Long, FrameLine}
-use Rattle.canbit_words.specs.declared.subcommands.Chosen.{Chosen}
-use Rattle.canbit_words.specs.declared.subcommands.Chosen.TheVariants.{Run, Check}
+use Rattle.canbit_commands.specs.declared.subcommands.Chosen.{Chosen}
+use Rattle.canbit_commands.specs.declared.subcommands.Chosen.TheVariants.{Run, Check}
 use Rattle.canbit_commands.specs.Answers.{AnswersAll, AnswersEnded, AnswersTooLong, BeginsAnswering, HasBadByte, HasBadLine, HasWrongField, PassesAll, RefusesInput}
 use Rattle.canbit_commands.specs.Ends.{Ends}
 use Rattle.can_program.specs.Status.{stream_status}

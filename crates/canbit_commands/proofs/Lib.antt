@@ -1,2 +1,4 @@
+pub mod Walks
+pub mod Parses
 pub mod Faults
 pub mod Runs

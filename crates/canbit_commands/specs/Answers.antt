@@ -8,8 +8,8 @@ use Rattle.can_scenario_text.specs.Scenarios.{IsWrongScenarioField, IsScenarioTe
 use Rattle.can_scenario_text.specs.declared.scenario.Scenario.{Scenario}
 use Rattle.can_program.specs.Written.{WritesBeginning, WritesNothing}
 use Rattle.can_stream.specs.declared.field.Field.{Field}
-use Rattle.canbit_words.specs.declared.subcommands.Chosen.{Chosen}
-use Rattle.canbit_words.specs.declared.subcommands.Chosen.TheVariants.{Encode, Decode, Run, Check}
+use Rattle.canbit_commands.specs.declared.subcommands.Chosen.{Chosen}
+use Rattle.canbit_commands.specs.declared.subcommands.Chosen.TheVariants.{Encode, Decode, Run, Check}
 
 -- the output is that for vectors that all pass
 abbrev pub PassesAll : List ℕ → List ℕ → Type 0

@@ -5,18 +5,20 @@ use Rattle.can_stream.specs.Told.{Told}
 use Rattle.can_stream.specs.declared.fault.TraceFault.{TraceFault}
 use Rattle.can_stream.specs.declared.fault.TraceFault.TheVariants.{BadByte, ScenarioField, Read, Write, Memory, Long, FrameLine}
 use Rattle.can_stream.specs.declared.field.Field.{Field}
-use Rattle.canbit_words.specs.declared.subcommands.Chosen.{Chosen}
-use Rattle.canbit_words.specs.declared.subcommands.Chosen.TheVariants.{Run}
+use Rattle.canbit_commands.specs.declared.subcommands.Chosen.{Chosen}
+use Rattle.canbit_commands.specs.declared.subcommands.Chosen.TheVariants.{Run}
 use Rattle.canbit_commands.specs.Answers.{AnswersAll, AnswersEnded, BeginsAnswering, HasBadByte, RefusesInput, RefusesScenario, Reports}
 use Rattle.can_program.specs.Written.{WritesBeginning, WritesNothing}
 
 -- The reader and the writer before and after a call; whether the reader has ended or failed by then; and whether the writer has
 -- failed, so that what it took is incomplete.
-module _ {R W : Type 0} (remaining : R → Option (List ℕ)) (before after : R) (contents : W → Option (List ℕ)) (held holds : W) (has_ended has_failed is_cut : Bool) where
+module _ {R W : Type 0} (remaining : R → Option (List ℕ)) (before after : R) (contents : W → Option (List ℕ))
+    (held holds : W) (has_ended has_failed is_cut : Bool) where
   -- a scenario was read and run, with this result
   pub record RunEnds (result : Result (Unit {0}) TraceFault) : Type 0 where
     pub ok : OnOk result (Told remaining before after contents held holds Reports)
-    pub field : (wrong : Field) → IsErrOf result (ScenarioField wrong) → Told remaining before after contents held holds (RefusesScenario wrong)
+    pub field : (wrong : Field) → IsErrOf result (ScenarioField wrong)
+        → Told remaining before after contents held holds (RefusesScenario wrong)
     pub read : IsErrOf result Read → Told remaining before after contents held holds WritesNothing
     pub write : IsErrOf result Write → Told remaining before after contents held holds (WritesBeginning Reports)
     pub memory : IsErrOf result Memory → holds ≡ held

@@ -6,16 +6,17 @@ ghost use Rattle.canbit_commands.specs.Answers.{AnswersAll, AnswersEnded, Begins
 ghost use Rattle.canbit_commands.specs.Ends.{Ends};
 ghost use Rattle.canbit_commands.specs.Status.{canbit_status};
 ghost use Rattle.can_program.specs.Status.{exit_status};
-ghost use Rattle.canbit_words.specs.Subcommands.{name_of};
+ghost use Rattle.canbit_commands.specs.Subcommands.{name_of};
 ghost use Rattle.can_program.specs.Words.{texts_of};
-ghost use Rattle.canbit_words.specs.Words.{AsksFor, AsksForHelp, AsksForOne, IsMisuse};
+ghost use Rattle.canbit_commands.specs.Words.{AsksFor, AsksForHelp, AsksForOne, IsMisuse};
 
 use crate::fault::CanbitFault;
 use crate::run::run;
+use crate::subcommands::Chosen;
+use crate::words::{WordFault, chosen};
 use can_program::{Program, WordsFault, conclude, refuse, write_help};
 use can_stream::{Sink, Source};
 use can_texts::{check_lines, decode_stream, encode_lines};
-use canbit_words::{Chosen, WordFault, chosen};
 use std::alloc::Global;
 
 /// The program, whose faults are printed as codes alone.

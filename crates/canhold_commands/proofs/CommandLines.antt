@@ -4,10 +4,10 @@ use Rattle.std.proofs.lemmas.List.{length-append, length-map, length-take, take_
 use Rattle.std.proofs.lemmas.Bool.{and_from, and_parts, cases_lt, false≢true, or_cases}
 use Rattle.std.specs.List.{list_all}
 use Rattle.can_frame.proofs.TextLengths.{length-frame_text}
-use Rattle.can_conform.specs.declared.script.Start.{Start}
-use Rattle.can_conform.specs.declared.script.Start.TheVariants.{Idle, Joining}
-use Rattle.can_conform.specs.declared.script.TesterLevel.{TesterLevel}
-use Rattle.can_conform.specs.declared.script.TesterLevel.TheVariants.{Dominant, Recessive, Forced}
+use Rattle.can_terms.specs.declared.script.Start.{Start}
+use Rattle.can_terms.specs.declared.script.Start.TheVariants.{Idle, Joining}
+use Rattle.can_terms.specs.declared.script.TesterLevel.{TesterLevel}
+use Rattle.can_terms.specs.declared.script.TesterLevel.TheVariants.{Dominant, Recessive, Forced}
 use Rattle.can_node.specs.Ports.{PortState}
 use Rattle.canhold_commands.specs.Commands.{Command, begins, offers, wishes, plays, ends, is_tester_digit, quit_line, start_part, tester_digit, tester_of, IsCaseLine, IsCommandLine, IsPlayLine}
 use Rattle.canhold_commands.specs.Adapters.{answer_to, behind_command, IsAnswered}

@@ -2,7 +2,7 @@
 use Rattle.std.proofs.Common.{◌≡◌, ℕ, List, [], ◌∷◌, map, refl}
 use Rattle.std.specs.Prelude.{count_by, not}
 use Rattle.std.specs.List.{range_with_len}
-use Rattle.can_conform.specs.declared.transcript.Transcript.{Transcript}
+use Rattle.can_terms.specs.declared.transcript.Transcript.{Transcript}
 use Rattle.kit_documents.specs.declared.transcripts.told.Told.{Told}
 use Rattle.canhold_commands.specs.Judgements.{has_one}
 

@@ -2,9 +2,9 @@
 use Rattle.std.specs.Prelude.{ℕ, ◌≡◌, ◌≢◌, ◌⊎◌, ◌+◌, List, [], ◌∷◌, ◌++◌, map, Option, Some, None, option_map, codes, decimal}
 use Rattle.can_frame.specs.declared.level.Level.{Level}
 use Rattle.can_fault.specs.Counters.{state_of}
-use Rattle.can_mac.specs.declared.event.Event.{Event}
+use Rattle.can_terms.specs.declared.event.Event.{Event}
 use Rattle.can_node.specs.Ports.{PortState, port_drives, with_offer}
-use Rattle.can_conform.specs.declared.script.TesterLevel.{TesterLevel}
+use Rattle.can_terms.specs.declared.script.TesterLevel.{TesterLevel}
 use Rattle.can_conform.specs.Runs.{met, started, told_event, wished}
 use Rattle.can_frame.specs.Levels.{digit_of}
 use Rattle.can_fault.specs.Words.{state_word}

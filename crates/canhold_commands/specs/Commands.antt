@@ -2,10 +2,10 @@
 use Rattle.std.specs.Prelude.{ℕ, ◌≡◌, ◌+◌, ◌≤◌, ◌==◌, Bool, ◌||◌, if◌then◌else◌, List, [], ◌∷◌, ◌++◌, length, map, codes}
 use Rattle.can_frame.specs.Parts.{Parts, IsFrame}
 use Rattle.can_frame.specs.Text.{frame_text}
-use Rattle.can_conform.specs.declared.script.Start.{Start}
-use Rattle.can_conform.specs.declared.script.Start.TheVariants.{Idle, Joining}
-use Rattle.can_conform.specs.declared.script.TesterLevel.{TesterLevel}
-use Rattle.can_conform.specs.declared.script.TesterLevel.TheVariants.{Dominant, Recessive, Forced}
+use Rattle.can_terms.specs.declared.script.Start.{Start}
+use Rattle.can_terms.specs.declared.script.Start.TheVariants.{Idle, Joining}
+use Rattle.can_terms.specs.declared.script.TesterLevel.{TesterLevel}
+use Rattle.can_terms.specs.declared.script.TesterLevel.TheVariants.{Dominant, Recessive, Forced}
 use Rattle.kit_documents.specs.Names.{longest_name}
 
 -- A command of the runner: begin a case, queue a frame, request overload frames, play bit times, or end the case.

@@ -3,7 +3,7 @@
 use Rattle.std.specs.Prelude.{ℕ, ◌≡◌, codes, None, List, [], ◌∷◌, ◌++◌}
 use Rattle.std.specs.String.{string_bytes}
 use Rattle.toml.specs.Data.{Data}
-use Rattle.can_conform.specs.declared.transcript.Transcript.{Transcript}
+use Rattle.can_terms.specs.declared.transcript.Transcript.{Transcript}
 use Rattle.can_conform.specs.Transcripts.{IsTranscript}
 use Rattle.kit_documents.specs.declared.field.KitField.{KitField}
 use Rattle.kit_documents.specs.declared.field.KitField.TheVariants as field

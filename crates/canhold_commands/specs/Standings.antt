@@ -1,38 +1,21 @@
 -- The words for phases, roles and rules. (docs/CONFORMANCE.md, "Verdict lines")
-use Rattle.std.specs.Prelude.{ℕ, List, [], ◌++◌, Option, Some, None, codes, decimal}
-use Rattle.can_mac.specs.declared.event.Event.{Event}
-use Rattle.can_conform.specs.declared.timed.Timed.{Timed}
-use Rattle.can_conform.specs.declared.standing.PhaseName.{PhaseName}
-use Rattle.can_conform.specs.declared.standing.PhaseName.TheVariants as phase
-use Rattle.can_conform.specs.declared.standing.RoleName.{RoleName}
-use Rattle.can_conform.specs.declared.standing.RoleName.TheVariants as role
+use Rattle.std.specs.Prelude.{ℕ, Bool, if◌then◌else◌, List, [], ◌++◌, Option, Some, None, codes, decimal}
+use Rattle.can_terms.specs.declared.event.Event.{Event}
+use Rattle.can_terms.specs.declared.timed.Timed.{Timed}
+use Rattle.can_terms.specs.declared.phase_kind.PhaseKind.{PhaseKind}
+use Rattle.can_terms.specs.Words.{has_place, phase_word}
 use Rattle.can_conform.specs.declared.standing.Rule.{Rule}
 use Rattle.can_conform.specs.declared.standing.Rule.TheVariants as rule
 use Rattle.can_conform.specs.declared.standing.Standing.{Standing}
 use Rattle.kit_documents.specs.Events.{event_text}
 
--- the word for a phase, and its number, if it has one
-abbrev pub phase_text : PhaseName → List ℕ
-phase_text (phase.Joining n) = codes "joining " ++ decimal n
-phase_text phase.Idle = codes "idle"
-phase_text (phase.StuffedPart n) = codes "stuffed-part " ++ decimal n
-phase_text phase.CrcDelimiter = codes "crc-delimiter"
-phase_text phase.AckSlot = codes "ack-slot"
-phase_text phase.AckDelimiter = codes "ack-delimiter"
-phase_text (phase.EndOfFrame n) = codes "end-of-frame " ++ decimal n
-phase_text (phase.ErrorFlag n) = codes "error-flag " ++ decimal n
-phase_text (phase.PassiveFlag n) = codes "passive-flag " ++ decimal n
-phase_text (phase.OverloadFlag n) = codes "overload-flag " ++ decimal n
-phase_text (phase.AfterFlag n) = codes "after-flag " ++ decimal n
-phase_text (phase.Delimiter n) = codes "delimiter " ++ decimal n
-phase_text (phase.Intermission n) = codes "intermission " ++ decimal n
-phase_text (phase.Suspend n) = codes "suspend " ++ decimal n
-phase_text (phase.BusOff n) = codes "bus-off " ++ decimal n
+-- the word for a phase, and how far it has got, if it has a place
+abbrev pub phase_text : PhaseKind → ℕ → List ℕ
+phase_text phase place = phase_word phase ++ (if has_place phase then codes " " ++ decimal place else [])
 
 -- the word for a role
-abbrev pub role_word : RoleName → List ℕ
-role_word role.Receiver = codes "receiver"
-role_word role.Sender = codes "sender"
+abbrev pub role_word : Bool → List ℕ
+role_word sender = if sender then codes "sender" else codes "receiver"
 
 -- a rule as docs/ACCESS.md names it
 abbrev pub rule_name : Rule → List ℕ
@@ -63,4 +46,4 @@ since_text (Some last) = codes "; since " ++ (event_text last.told ++ (codes " a
 -- the state of the reference: phase, role, rule and last event
 abbrev pub standing_text : Standing → List ℕ
 standing_text s =
-    phase_text s.phase ++ (codes ", " ++ (role_word s.role ++ (codes "; " ++ (rule_name s.rule ++ since_text s.since))))
+    phase_text s.phase s.place ++ (codes ", " ++ (role_word s.is_sender ++ (codes "; " ++ (rule_name s.rule ++ since_text s.since))))

@@ -1,11 +1,11 @@
 -- A transcript as a table of a document. (docs/CONFORMANCE.md, "A transcript as text")
 use Rattle.std.specs.Prelude.{ℕ, ◌==◌, if◌then◌else◌, List, [], ◌∷◌, ◌++◌, length, Option, Some, None, codes, decimal}
 use Rattle.can_frame.specs.declared.level.Level.{Level}
-use Rattle.can_mac.specs.declared.event.Event.{Event}
-use Rattle.can_conform.specs.declared.timed.Timed.{Timed}
-use Rattle.can_conform.specs.declared.transcript.Counters.{Counters}
-use Rattle.can_conform.specs.declared.transcript.Ending.{Ending}
-use Rattle.can_conform.specs.declared.transcript.Transcript.{Transcript}
+use Rattle.can_terms.specs.declared.event.Event.{Event}
+use Rattle.can_terms.specs.declared.timed.Timed.{Timed}
+use Rattle.can_terms.specs.declared.transcript.Counters.{Counters}
+use Rattle.can_terms.specs.declared.transcript.Ending.{Ending}
+use Rattle.can_terms.specs.declared.transcript.Transcript.{Transcript}
 use Rattle.kit_documents.specs.LevelTokens.{levels_text}
 use Rattle.can_fault.specs.Words.{state_word}
 use Rattle.kit_documents.specs.Events.{event_text}

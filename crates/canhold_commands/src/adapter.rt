@@ -5,10 +5,10 @@ ghost use Rattle.canhold_commands.specs.Commands.{quit_line, tester_of as tester
 
 use crate::command::{MOST_LEVELS, digits_in, frame_in, start_in, tester_of, wish_in};
 use arrayvec::ArrayVec;
-use can_conform::{Start, meet, started_node};
+use can_conform::{meet, started_node};
 use can_frame::Frame;
-use can_mac::Event;
 use can_node::{PackedNode, Port};
+use can_terms::{Event, Start};
 use document_values::{push_number, push_text};
 use kit_documents::{push_event, push_state};
 use std::alloc::{AllocError, Global};

@@ -1,13 +1,13 @@
 //! The commands in the lines of a runner.
 ghost use Rattle.std.specs.Prelude.{◌≡◌, ◌≢◌, ◌↔◌, ◌<◌, ℕ, List, ◌++◌, map, codes, IsTrue, MatchOption};
 ghost use Rattle.std.specs.List.{list_all};
-ghost use Rattle.can_conform.specs.declared.script.Start.{Start as StartSaid};
-ghost use Rattle.can_conform.specs.declared.script.TesterLevel.{TesterLevel as TesterSaid};
+ghost use Rattle.can_terms.specs.declared.script.Start.{Start as StartSaid};
+ghost use Rattle.can_terms.specs.declared.script.TesterLevel.{TesterLevel as TesterSaid};
 ghost use Rattle.can_frame.specs.Parts.{Parts};
 ghost use Rattle.canhold_commands.specs.Commands.{is_tester_digit, start_part, tester_of as tester_by, IsCaseLine, IsHoldLine, IsOfferLine, IsPlayLine};
 
-use can_conform::{Start, TesterLevel};
 use can_frame::Frame;
+use can_terms::{Start, TesterLevel};
 use kit_documents::LONGEST_NAME;
 
 /// A line plays at most this number of bit times.

@@ -2,9 +2,9 @@
 ghost use Rattle.std.specs.Prelude.{◌≡◌, ◌++◌, OnOk};
 ghost use Rattle.canhold_commands.specs.Verdicts.{counters_text, difference_text, ending_text, event_or_nothing, level_difference, level_text};
 
-use can_conform::{Counters, Difference, Ending};
+use can_conform::Difference;
 use can_frame::Level;
-use can_mac::Event;
+use can_terms::{Counters, Ending, Event};
 use document_values::{push_number, push_text};
 use kit_documents::{push_event, push_state};
 use std::alloc::AllocError;

@@ -3,8 +3,7 @@ ghost use Rattle.std.specs.Prelude.{ℕ, ◌≡◌, ◌++◌, List, OnOk};
 ghost use Rattle.canhold_commands.specs.Transcripts.{counters_element, element_lines, event_element, list_text, where_told};
 
 use crate::transcript::push_counters;
-use can_conform::{Counters, Timed};
-use can_mac::Event;
+use can_terms::{Counters, Event, Timed};
 use document_values::{push_number, push_text};
 use kit_documents::push_event;
 use std::alloc::AllocError;

@@ -2,7 +2,7 @@
 ghost use Rattle.std.specs.Prelude.{◌≡◌, ◌≤◌, ◌<◌, ◌+◌, ◌++◌, false, not, count_by, replicate, All, [], length, IfOk, IsErrOf, OnOk};
 ghost use Rattle.std.specs.String.{string_bytes};
 ghost use Rattle.canhold_commands.specs.Verdicts.{verdict_line};
-ghost use Rattle.can_conform.specs.Transcripts.{IsTold};
+ghost use Rattle.can_terms.specs.Cases.{IsTold};
 ghost use Rattle.kit_documents.specs.declared.field.KitField.{KitField as Wrong};
 ghost use Rattle.kit_documents.specs.Cases.{longest_case};
 ghost use Rattle.canhold_commands.specs.Documents.{document_demands, IsWrongKitField};

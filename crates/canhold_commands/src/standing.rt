@@ -1,9 +1,9 @@
 //! The state of the reference: words for phases, roles and rules.
-ghost use Rattle.std.specs.Prelude.{◌≡◌, ◌++◌, decimal, OnOk};
+ghost use Rattle.std.specs.Prelude.{◌≡◌, ◌++◌, OnOk};
 ghost use Rattle.canhold_commands.specs.Standings.{phase_text, role_word as word_of_role, rule_name as name_of_rule, since_text, standing_text};
 
-use can_conform::{PhaseName, RoleName, Rule, Standing, Timed};
-use can_mac::Event;
+use can_conform::{Rule, Standing};
+use can_terms::{Event, PhaseKind, Timed};
 use document_values::{push_number, push_text};
 use kit_documents::push_event;
 use std::alloc::AllocError;
@@ -12,9 +12,9 @@ use std::alloc::AllocError;
 pub(crate) fn push_standing(out: &mut Vec<u8>, standing: &Standing) -> Result<(), AllocError>
     ensures { OnOk result (out.new.items ≡ out.old.items ++ standing_text standing.now) }
 {
-    push_phase(out, standing.phase)?;
+    push_phase(out, standing.phase, standing.place)?;
     push_text(out, b", ")?;
-    push_text(out, role_word(standing.role))?;
+    push_text(out, role_word(standing.is_sender))?;
     push_text(out, b"; ")?;
     push_text(out, rule_name(standing.rule))?;
     push_since(out, &standing.since)
@@ -33,45 +33,23 @@ fn push_since(out: &mut Vec<u8>, since: &Option<Timed<Event>>) -> Result<(), All
     push_number(out, u64::from(last.time))
 }
 
-/// Appends a phase and its number, if it has one.
-fn push_phase(out: &mut Vec<u8>, phase: PhaseName) -> Result<(), AllocError>
-    ensures { OnOk result (out.new.items ≡ out.old.items ++ phase_text phase) }
+/// Appends a phase, and how far it has got, if it has a place.
+fn push_phase(out: &mut Vec<u8>, phase: PhaseKind, place: u8) -> Result<(), AllocError>
+    ensures { OnOk result (out.new.items ≡ out.old.items ++ phase_text phase place) }
 {
-    match phase {
-        PhaseName::Joining(n) => push_so_far(out, b"joining ", u64::from(n)),
-        PhaseName::Idle => push_text(out, b"idle"),
-        PhaseName::StuffedPart(n) => push_so_far(out, b"stuffed-part ", n as u64),
-        PhaseName::CrcDelimiter => push_text(out, b"crc-delimiter"),
-        PhaseName::AckSlot => push_text(out, b"ack-slot"),
-        PhaseName::AckDelimiter => push_text(out, b"ack-delimiter"),
-        PhaseName::EndOfFrame(n) => push_so_far(out, b"end-of-frame ", u64::from(n)),
-        PhaseName::ErrorFlag(n) => push_so_far(out, b"error-flag ", u64::from(n)),
-        PhaseName::PassiveFlag(n) => push_so_far(out, b"passive-flag ", u64::from(n)),
-        PhaseName::OverloadFlag(n) => push_so_far(out, b"overload-flag ", u64::from(n)),
-        PhaseName::AfterFlag(n) => push_so_far(out, b"after-flag ", u64::from(n)),
-        PhaseName::Delimiter(n) => push_so_far(out, b"delimiter ", u64::from(n)),
-        PhaseName::Intermission(n) => push_so_far(out, b"intermission ", u64::from(n)),
-        PhaseName::Suspend(n) => push_so_far(out, b"suspend ", u64::from(n)),
-        PhaseName::BusOff(n) => push_so_far(out, b"bus-off ", u64::from(n)),
+    push_text(out, phase.word().as_bytes())?;
+    if phase.has_place() {
+        push_text(out, b" ")?;
+        push_number(out, u64::from(place))?;
     }
-}
-
-/// Appends a word and a number.
-fn push_so_far(out: &mut Vec<u8>, word: &[u8], count: u64) -> Result<(), AllocError>
-    ensures { OnOk result (out.new.items ≡ out.old.items ++ (word.now ++ decimal count)) }
-{
-    push_text(out, word)?;
-    push_number(out, count)
+    Ok(())
 }
 
 /// The word for a role.
-fn role_word(role: RoleName) -> &'static [u8]
-    ensures { result.now ≡ word_of_role role }
+fn role_word(is_sender: bool) -> &'static [u8]
+    ensures { result.now ≡ word_of_role is_sender }
 {
-    match role {
-        RoleName::Receiver => b"receiver",
-        RoleName::Sender => b"sender",
-    }
+    if is_sender { b"sender" } else { b"receiver" }
 }
 
 /// A rule as docs/ACCESS.md names it.

@@ -3,8 +3,8 @@ ghost use Rattle.std.specs.Prelude.{◌≡◌, ◌++◌, OnOk};
 ghost use Rattle.canhold_commands.specs.Transcripts.{counters_elements, drove_line, end_line, transcript_head, transcript_text, where_told};
 
 use crate::elements::push_list;
-use can_conform::{Counters, Ending, Transcript};
 use can_frame::Level;
+use can_terms::{Counters, Ending, Transcript};
 use document_values::{push_number, push_text};
 use kit_documents::{push_levels, push_state};
 use std::alloc::AllocError;

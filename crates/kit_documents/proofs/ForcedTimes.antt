@@ -10,8 +10,8 @@ use Rattle.kit_documents.specs.declared.field.KitField.{KitField}
 use Rattle.kit_documents.specs.declared.field.CaseField.TheVariants as of_case
 use Rattle.document_values.specs.Demands.{AllMet, IsFirstUnmet, demands_on_each}
 use Rattle.document_values.specs.Values.{ArePaired}
-use Rattle.can_conform.specs.declared.script.TesterLevel.{TesterLevel}
-use Rattle.can_conform.specs.declared.script.TesterLevel.TheVariants as tester
+use Rattle.can_terms.specs.declared.script.TesterLevel.{TesterLevel}
+use Rattle.can_terms.specs.declared.script.TesterLevel.TheVariants as tester
 use Rattle.kit_documents.specs.Cases.{tester_level, forced_at, forced_demands, in_case}
 use Rattle.kit_documents.specs.Lists.{element_demands, time_in, SaysTime, SayStrings}
 use Rattle.kit_documents.proofs.TesterParts.{one-strings}

@@ -5,11 +5,11 @@ use Rattle.std.specs.Str.{bytes_eq}
 use Rattle.toml.specs.Data.{Data, string, integer}
 use Rattle.can_frame.specs.Parts.{Parts}
 use Rattle.can_frame.specs.declared.level.Level.{Level}
-use Rattle.can_conform.specs.declared.script.Start.{Start}
-use Rattle.can_conform.specs.declared.script.Start.TheVariants.{Idle, Joining}
-use Rattle.can_conform.specs.declared.script.TesterLevel.{TesterLevel}
-use Rattle.can_conform.specs.declared.timed.Timed.{Timed}
-use Rattle.can_conform.proofs.TranscriptLemmas.{timed-is}
+use Rattle.can_terms.specs.declared.script.Start.{Start}
+use Rattle.can_terms.specs.declared.script.Start.TheVariants.{Idle, Joining}
+use Rattle.can_terms.specs.declared.script.TesterLevel.{TesterLevel}
+use Rattle.can_terms.specs.declared.timed.Timed.{Timed}
+use Rattle.can_terms.proofs.TimedLemmas.{timed-is}
 use Rattle.document_values.specs.Values.{elements_in, named, two, IsRequired, SaysFrame}
 use Rattle.document_values.proofs.OneReading.{one-list, one-number, said-frame}
 use Rattle.kit_documents.specs.declared.cases.case.Case.{Case}

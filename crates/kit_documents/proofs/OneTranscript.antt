@@ -1,11 +1,11 @@
 -- A table describes at most one transcript.
 use Rattle.std.proofs.Common.{◌≡◌, ℕ, pos, List, codes, Option, Some, None, Vec, Global, sym, ap, subst, ◌∙◌}
 use Rattle.toml.specs.Data.{Data, string, integer}
-use Rattle.can_conform.specs.declared.timed.Timed.{Timed}
-use Rattle.can_conform.specs.declared.transcript.Counters.{Counters}
-use Rattle.can_conform.specs.declared.transcript.Ending.{Ending}
-use Rattle.can_conform.proofs.TranscriptLemmas.{timed-is}
-use Rattle.can_mac.specs.declared.event.Event.{Event}
+use Rattle.can_terms.specs.declared.timed.Timed.{Timed}
+use Rattle.can_terms.specs.declared.transcript.Counters.{Counters}
+use Rattle.can_terms.specs.declared.transcript.Ending.{Ending}
+use Rattle.can_terms.proofs.TimedLemmas.{timed-is}
+use Rattle.can_terms.specs.declared.event.Event.{Event}
 use Rattle.can_fault.specs.declared.state.State.{State}
 use Rattle.can_fault.specs.Words.{state_word}
 use Rattle.kit_documents.specs.Events.{SaysEvent}

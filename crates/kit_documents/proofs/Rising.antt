@@ -6,8 +6,8 @@ use Rattle.std.proofs.lemmas.List.{get_or-take, length-take-le}
 use Rattle.std.proofs.lemmas.List.Elements.{All-contains}
 use Rattle.std.proofs.lemmas.Option.{get_or_from_slice_get, slice_get_within}
 use Rattle.toml.specs.Data.{Data}
-use Rattle.can_conform.specs.declared.timed.Timed.{Timed}
-use Rattle.can_conform.specs.Transcripts.{AreRising, EndBefore}
+use Rattle.can_terms.specs.declared.timed.Timed.{Timed}
+use Rattle.can_terms.specs.Cases.{AreRising, EndBefore}
 use Rattle.kit_documents.specs.declared.field.KitField.{KitField}
 use Rattle.document_values.specs.Demands.{AllMet, demands_on_each}
 use Rattle.document_values.specs.Values.{elements, elements_in, ArePaired}

@@ -1,10 +1,10 @@
 -- What a transcript lists, read part by part.
 use Rattle.std.proofs.Common.{◌≡◌, ℕ, Option, Some, codes, refl, ap, subst, inl}
 use Rattle.toml.specs.Data.{Data}
-use Rattle.can_conform.specs.declared.timed.Timed.{Timed}
-use Rattle.can_conform.specs.declared.transcript.Counters.{Counters as CountersSaid}
-use Rattle.can_conform.specs.declared.transcript.Ending.{Ending}
-use Rattle.can_mac.specs.declared.event.Event.{Event}
+use Rattle.can_terms.specs.declared.timed.Timed.{Timed}
+use Rattle.can_terms.specs.declared.transcript.Counters.{Counters as CountersSaid}
+use Rattle.can_terms.specs.declared.transcript.Ending.{Ending}
+use Rattle.can_terms.specs.declared.event.Event.{Event}
 use Rattle.kit_documents.specs.declared.field.KitField.{KitField}
 use Rattle.kit_documents.specs.declared.field.TranscriptField.TheVariants as of_transcript
 use Rattle.document_values.specs.Demands.{AllMet, IsFirstUnmet}

@@ -12,7 +12,7 @@ use Rattle.toml.specs.declared.value.Value.{Value}
 use Rattle.kit_documents.specs.declared.cases.words.Choice.{Choice}
 use Rattle.kit_documents.specs.declared.cases.words.Needs.{Needs}
 use Rattle.kit_documents.specs.Cases.{case_name}
-use Rattle.can_conform.specs.declared.script.Start.{Start}
+use Rattle.can_terms.specs.declared.script.Start.{Start}
 use Rattle.document_values.specs.Values.{IsRequired}
 use Rattle.kit_documents.specs.CaseWords.{choice_word, need_words, SaysStart, TakesWord}
 

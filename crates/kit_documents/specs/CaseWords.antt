@@ -3,8 +3,8 @@ use Rattle.std.specs.Prelude.{ℕ, ◌≡◌, ◌≢◌, MatchBool, ◌==◌, �
 use Rattle.std.specs.List.{list_all}
 use Rattle.toml.specs.Data.{Data, string}
 use Rattle.document_values.specs.Values.{elements_in, IsArray, IsOptional}
-use Rattle.can_conform.specs.declared.script.Start.{Start}
-use Rattle.can_conform.specs.declared.script.Start.TheVariants.{Idle, Joining}
+use Rattle.can_terms.specs.declared.script.Start.{Start}
+use Rattle.can_terms.specs.declared.script.Start.TheVariants.{Idle, Joining}
 use Rattle.kit_documents.specs.declared.cases.words.Needs.{Needs}
 use Rattle.kit_documents.specs.declared.cases.words.Choice.{Choice}
 use Rattle.kit_documents.specs.declared.cases.words.Choice.TheVariants.{ReservedLevels, StuffException, OwnStart, FlagErrorOnce, OwnOverload, Rec127, RecoveryByItself, RecoveryRows, Prompt}

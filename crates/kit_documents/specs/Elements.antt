@@ -2,10 +2,10 @@
 -- "Documents")
 use Rattle.std.specs.Prelude.{ℕ, ◌≡◌, ◌≤◌, pos, codes, List, Option, Some, None}
 use Rattle.toml.specs.Data.{Data, string, integer}
-use Rattle.can_conform.specs.declared.timed.Timed.{Timed}
-use Rattle.can_conform.specs.declared.transcript.Counters.{Counters}
-use Rattle.can_conform.specs.declared.transcript.Ending.{Ending}
-use Rattle.can_mac.specs.declared.event.Event.{Event}
+use Rattle.can_terms.specs.declared.timed.Timed.{Timed}
+use Rattle.can_terms.specs.declared.transcript.Counters.{Counters}
+use Rattle.can_terms.specs.declared.transcript.Ending.{Ending}
+use Rattle.can_terms.specs.declared.event.Event.{Event}
 use Rattle.can_fault.specs.Words.{state_word}
 use Rattle.kit_documents.specs.Events.{SaysEvent}
 use Rattle.document_values.specs.Demands.{Demands, demand}

@@ -2,28 +2,16 @@
 use Rattle.std.specs.Prelude.{ℕ, ◌≡◌, List, ◌++◌, codes, Option, Some, None, IfSome}
 use Rattle.can_frame.specs.Parts.{Parts, IsFrame}
 use Rattle.can_frame.specs.Text.{frame_text}
-use Rattle.can_mac.specs.declared.event.Event.{Event}
-use Rattle.can_mac.specs.declared.event.Event.TheVariants.{Sent, Received, Lost, Error, Overload, WentOff, Recovered}
-use Rattle.can_mac.specs.declared.event.ErrorKind.{ErrorKind}
-use Rattle.can_mac.specs.declared.event.ErrorKind.TheVariants.{Bit, Stuff, Crc, Form, Ack}
+use Rattle.can_terms.specs.declared.event.Event.{Event}
+use Rattle.can_terms.specs.declared.event.Event.TheVariants.{Sent, Received}
+use Rattle.can_terms.specs.Codes.{event_kind}
+use Rattle.can_terms.specs.Words.{kind_word}
 
--- the word for a kind of error
-abbrev pub kind_word : ErrorKind → List ℕ
-kind_word Bit = codes "bit"
-kind_word Stuff = codes "stuff"
-kind_word Crc = codes "crc"
-kind_word Form = codes "form"
-kind_word Ack = codes "ack"
-
--- The text of an event.
+-- The text of an event: its word, and its frame, if it has one.
 abbrev pub event_text : Event → List ℕ
 event_text (Sent f) = codes "sent " ++ frame_text f
 event_text (Received f) = codes "received " ++ frame_text f
-event_text Lost = codes "lost"
-event_text (Error kind) = kind_word kind ++ codes " error"
-event_text Overload = codes "overload"
-event_text WentOff = codes "went off"
-event_text Recovered = codes "recovered"
+event_text event = kind_word (event_kind event)
 
 -- The frame of an event, if it has one.
 abbrev pub event_frame : Event → Option Parts

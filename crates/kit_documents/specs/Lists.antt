@@ -4,7 +4,7 @@ use Rattle.toml.specs.Data.{Data, string, integer, array, item}
 use Rattle.can_frame.specs.Parts.{Parts}
 use Rattle.can_frame.specs.declared.level.Level.{Level}
 use Rattle.can_frame.specs.declared.level.Level.TheVariants.{Recessive}
-use Rattle.can_conform.specs.declared.timed.Timed.{Timed}
+use Rattle.can_terms.specs.declared.timed.Timed.{Timed}
 use Rattle.kit_documents.specs.LevelTexts.{SaysLevels}
 use Rattle.document_values.specs.Demands.{Demands, no_demands, demand, demands_on_each}
 use Rattle.document_values.specs.Values.{elements, elements_in, named, two, IsArray, IsNumber, IsOptional, SaysFrame}

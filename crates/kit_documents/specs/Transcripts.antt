@@ -4,8 +4,8 @@ use Rattle.std.specs.Prelude.{ℕ, ◌≡◌, ◌≤◌, true, codes, List, [], 
 use Rattle.std.specs.List.{position}
 use Rattle.toml.specs.Data.{Data, same_key}
 use Rattle.can_frame.specs.declared.level.Level.{Level}
-use Rattle.can_conform.specs.declared.transcript.Ending.{Ending}
-use Rattle.can_conform.specs.declared.transcript.Transcript.{Transcript}
+use Rattle.can_terms.specs.declared.transcript.Ending.{Ending}
+use Rattle.can_terms.specs.declared.transcript.Transcript.{Transcript}
 use Rattle.kit_documents.specs.declared.field.KitField.{KitField}
 use Rattle.kit_documents.specs.declared.field.KitField.TheVariants as field
 use Rattle.kit_documents.specs.declared.field.TranscriptField.{TranscriptField}

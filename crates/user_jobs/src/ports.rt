@@ -7,10 +7,10 @@ use crate::text::Text;
 use crate::traffic::{frame_of, push_offer};
 use can_fault::State;
 use can_frame::Level;
-use can_mac::{ErrorKind, Event};
 use can_node::{PackedNode, Port};
-use can_port_times::{Brought, PortTime, told_times};
 use can_scenario_text::Scenario;
+use can_terms::{Event, EventKind, PhaseKind};
+use can_trace::{PortTime, told_times};
 use std::alloc::{AllocError, Global};
 
 /// The capacity of a port's queue, and of its log, in frames.
@@ -94,27 +94,10 @@ fn offer(ports: &mut [PackedNode], random: &mut Random) {
 
 /// Returns the number of an event.
 fn number_of(event: Event) -> u64 {
+    let kind = u64::from(event.kind().code());
     match event {
-        Event::Sent(frame) => u64::from(frame.id().raw()) * 16 + 1,
-        Event::Received(frame) => u64::from(frame.id().raw()) * 16 + 2,
-        Event::Lost => 3,
-        Event::Error(kind) => 4 + number_of_error(kind),
-        Event::Overload => 9,
-        Event::WentOff => 10,
-        Event::Recovered => 11,
-    }
-}
-
-/// Returns the number of a kind of error.
-fn number_of_error(kind: ErrorKind) -> u64
-    ensures { result < 5 }
-{
-    match kind {
-        ErrorKind::Bit => 0,
-        ErrorKind::Stuff => 1,
-        ErrorKind::Crc => 2,
-        ErrorKind::Form => 3,
-        ErrorKind::Ack => 4,
+        Event::Sent(frame) | Event::Received(frame) => u64::from(frame.id().raw()) * 16 + kind,
+        _ => kind,
     }
 }
 
@@ -178,16 +161,12 @@ fn scenario(alloc: Global, random: &mut Random, ports: u32, bits: u32) -> Text
 fn put_time(digest: &mut Digest, time: &PortTime) {
     let levels = u64::from(time.drove.code()) * 2 + u64::from(time.saw.code());
     let counts = u64::from(time.transmit) * 65536 + u64::from(time.receive);
-    let brought = match time.brought {
-        Brought::Nothing => 0,
-        Brought::Sent => 1,
-        Brought::Received => 2,
-        Brought::Lost => 3,
-        Brought::Error(kind) => 4 + number_of_error(kind),
-        Brought::Overload => 9,
-        Brought::WentOff => 10,
-        Brought::Recovered => 11,
+    let event = u64::from(EventKind::code_of(time.event));
+    // the digest numbers these two phases the other way round
+    let phase = match time.phase {
+        PhaseKind::Joining => 0,
+        PhaseKind::Idle => 1,
+        phase => u64::from(phase.code()),
     };
-    let stage = time.stage as u64;
-    digest.put(counts * 4096 + brought * 256 + stage * 8 + levels * 2 + u64::from(time.sends));
+    digest.put(counts * 4096 + event * 256 + phase * 8 + levels * 2 + u64::from(time.sends));
 }

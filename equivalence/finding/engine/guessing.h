@@ -8,6 +8,7 @@
 #include <vector>
 
 #include "conditions.h"
+#include "progress.h"
 
 namespace find {
 
@@ -46,7 +47,7 @@ public:
 
     // What does not follow from a guess under a coarser condition. Those in `dead` are not made, nothing follows from
     // them. Guesses from before are kept, except those about registers about which one is dead.
-    std::vector<Guess> all(const std::vector<Guess> &dead, const std::vector<Guess> &known) {
+    std::vector<Guess> all(const std::vector<Guess> &dead, const std::vector<Guess> &known, Progress &progress) {
         std::unordered_set<int> renewed;
         for (const Guess &guess : dead) {
             is_dead.insert(code(guess));
@@ -67,8 +68,10 @@ public:
         const std::vector<int> registers = targets, pairs = keep_renewed(graph.list("pairs"));
         const std::unordered_set<int> of_pairs = flags("pair_conditions");
         covered.assign(conditions.size(), std::vector<char>(registers.size(), 0));
-        for (std::size_t at = 0; at < conditions.size(); at++)
+        for (std::size_t at = 0; at < conditions.size(); at++) {
+            progress.show();
             if (!of_pairs.count(static_cast<int>(at))) guess_under(static_cast<int>(at), made);
+        }
         guess_gates(made);
         targets = pairs;
         number_targets();
@@ -210,9 +213,11 @@ private:
         conditions.set_met(condition, mask.states && (is_new || !conditions.only(condition).empty()));
         if (open.empty() || !conditions.is_met(condition)) return;
         std::unordered_map<Word, std::vector<int>> wanted;
+        // a level that is always the same, as a start of frame is, is still the level that a register keeps
+        const bool is_of_level = conditions.only(condition).size() == 1;
         for (const int signal : open) {
             const Word one = hash(mask, signal);
-            if (one == 0 || one == mask.total)
+            if (!is_of_level && (one == 0 || one == mask.total))
                 take_constant(condition, signal, one != 0, mask, made);
             else if (!own.count(signal))
                 wanted[one].push_back(signal);
@@ -227,8 +232,9 @@ private:
         };
         for (const Literal partner : conditions.only(condition).empty() ? partners : conditions.only(condition)) {
             const Word one = hash(mask, partner >> 1);
-            match(partner & ~1, one);
-            match(partner | 1, mask.total - one);
+            const bool is_constant = one == 0 || one == mask.total;
+            if (!is_constant || !(partner & 1)) match(partner & ~1, one);
+            if (!is_constant || partner & 1) match(partner | 1, mask.total - one);
         }
         for (const int signal : open)
             if (const auto found = equal.find(signal); found != equal.end())

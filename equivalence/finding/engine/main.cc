@@ -22,19 +22,27 @@ namespace find {
 constexpr std::size_t MOST = 48;  // states of a kind
 constexpr int EVERY = 4;  // clock cycles between samples, except of rare states
 constexpr int ROUNDS = 3;
+// Of the clock cycles at least one in this number is to end a bit time; otherwise it plays longer, to this factor.
+constexpr int PACE = 4, LONGEST = 64;
 
-void print(const char *word, double begun) {
-    std::fprintf(stderr, "%7.1f s  %s\n", play::now_in_seconds() - begun, word);
+// Plays for some clock cycles, or for more of them if a bit time has many: rare states need many bit times.
+void play_long(play::Playing &playing, std::int64_t cycles) {
+    for (int factor = 1; factor <= LONGEST && playing.difference().lane < 0; factor++) {
+        playing.run(1e9, factor * cycles);
+        if (playing.bit_times() * PACE >= cycles * play::LANES) return;
+    }
 }
 
-Samples sampled(const Graph &graph, std::uint64_t seed, std::int64_t cycles, bool &is_different) {
+Samples sampled(const Graph &graph, std::uint64_t seed, std::int64_t cycles, Progress &progress, bool &is_different) {
+    progress.enter("playing");
     Samples made(graph, MOST);
     play::Playing playing(graph, {seed, 0});
     const Literal rare = graph.number("watched");
     playing.watch([&](const Program &program, const Lanes &which, std::int64_t cycle) {
+        progress.show();
         made.take(program, cycle % EVERY == 0 ? which : which & program.value(rare));
     });
-    playing.run(1e9, cycles);
+    play_long(playing, cycles);
     is_different = playing.difference().lane >= 0;
     return made;
 }
@@ -57,7 +65,8 @@ Graph watching(const Graph &graph, const Conditions &conditions, const std::vect
 
 // Plays once more, and gives up the guesses that don't hold in a state it reaches, which becomes a sample.
 std::vector<Guess> refuted(const Graph &graph, const Conditions &conditions, const std::vector<Guess> &guesses,
-                           std::uint64_t seed, std::int64_t cycles, Samples &samples) {
+                           std::uint64_t seed, std::int64_t cycles, Progress &progress, Samples &samples) {
+    progress.enter("checking");
     const Graph watched = watching(graph, conditions, guesses);
     const Literals &literals = watched.list("watched");
     std::vector<Guess> gone;
@@ -65,6 +74,8 @@ std::vector<Guess> refuted(const Graph &graph, const Conditions &conditions, con
     for (std::size_t at = 0; at < left.size(); at++) left[at] = at;
     play::Playing playing(watched, {seed, 0});
     playing.watch([&](const Program &program, const Lanes &which, std::int64_t) {
+        progress.count(0, left.size());
+        progress.show();
         std::size_t kept = 0;
         for (const std::size_t at : left) {
             const Lanes found = program.value(literals[at]) & which;
@@ -79,11 +90,11 @@ std::vector<Guess> refuted(const Graph &graph, const Conditions &conditions, con
         }
         left.resize(kept);
     });
-    playing.run(1e9, cycles);
+    play_long(playing, cycles);
     return gone;
 }
 
-// In how many bit times of a play the circuit has the phase, place and role of a state; and in how many of these the
+// In how many states of a play the circuit has the phase, place and role of a given state; and in how many of these the
 // design's registers are as in it, too.
 class Reaching {
 public:
@@ -123,15 +134,18 @@ private:
     std::int64_t there = 0, same = 0;
 };
 
-void print_chain(const Graph &graph, const Proving &proving, std::uint64_t seed, std::int64_t cycles) {
+void print_chain(const Graph &graph, const Proving &proving, std::uint64_t seed, std::int64_t cycles,
+                 Progress &progress) {
+    progress.enter("counting");
     const std::vector<int> chain = proving.chain();
     std::vector<Reaching> reaching;
     for (const int at : chain) reaching.emplace_back(graph, proving.refuting()[at].registers);
     play::Playing playing(graph, {seed, 0});
     playing.watch([&](const Program &program, const Lanes &which, std::int64_t) {
+        progress.show();
         for (Reaching &one : reaching) one.count(program, which);
     });
-    playing.run(1e9, cycles);
+    play_long(playing, cycles);
     for (std::size_t at = 0; at < chain.size(); at++) reaching[at].print(chain[at]);
 }
 
@@ -141,8 +155,9 @@ void print_guess(const char *word, const Guess &guess) {
 
 // The guesses that hold after a reset.
 std::vector<Guess> after_reset(const Graph &graph, const Conditions &conditions, const std::vector<Guess> &guesses,
-                               int change, double seconds) {
-    Proving proving(graph, conditions, guesses, {true, false, change});
+                               int change, double seconds, Progress &progress) {
+    progress.enter("resetting");
+    Proving proving(graph, conditions, guesses, {true, false, change}, progress);
     proving.run(true, true, seconds);
     std::vector<Guess> kept;
     for (std::size_t at = 0; at < proving.all().size(); at++)
@@ -153,10 +168,11 @@ std::vector<Guess> after_reset(const Graph &graph, const Conditions &conditions,
 // For each of some changes of the design, which the play did not have: where the proof fails. The line has the number
 // of the change, that of the output, the state by which what excludes it was given up, and the first guess that was.
 void prove_changes(const Graph &graph, const Conditions &conditions, const std::vector<Guess> &guesses,
-                   const std::vector<int> &changes, double seconds) {
+                   const std::vector<int> &changes, double seconds, Progress &progress) {
     for (const int change : changes) {
-        const std::vector<Guess> kept = after_reset(graph, conditions, guesses, change, seconds);
-        Proving step(graph, conditions, kept, {false, false, change});
+        const std::vector<Guess> kept = after_reset(graph, conditions, guesses, change, seconds, progress);
+        progress.enter("proving");
+        Proving step(graph, conditions, kept, {false, false, change}, progress);
         const bool is_done = step.run(false, false, seconds);
         const std::vector<int> chain = step.chain();
         if (chain.empty()) {
@@ -181,27 +197,19 @@ std::vector<Guess> first_of_each(const std::vector<Guess> &guesses) {
     return made;
 }
 
-// False if outputs differ.
-bool find(Graph graph, std::uint64_t seed, std::int64_t cycles, double seconds, bool goes_on,
-          const std::vector<int> &changes) {
-    const double begun = play::now_in_seconds();
-    bool is_different = false;
-    Samples samples = sampled(graph, seed, cycles, is_different);
-    if (is_different) return false;
-    std::printf("samples %zu %zu\n", samples.size(), samples.number_of_kinds());
-    print("played", begun);
-    Conditions conditions(graph);
+// What holds in the states of a play, and in those of some more.
+std::vector<Guess> guessed(Graph &graph, Conditions &conditions, Samples &samples, std::uint64_t seed,
+                           std::int64_t cycles, Progress &progress) {
     std::vector<Guess> guesses, dead, known;
     for (int round = 0; round < ROUNDS; round++) {
+        progress.enter("guessing");
         samples.sort();
         Guessing guessing(graph, conditions, samples);
-        known = guessing.all(dead, known);
+        known = guessing.all(dead, known, progress);
         guesses = guessing.ranges(graph);
         guesses.insert(guesses.end(), known.begin(), known.end());
-        print("guessed", begun);
-        const std::vector<Guess> gone = refuted(graph, conditions, guesses, seed + 1 + round, cycles / 4, samples);
-        std::fprintf(stderr, "          %zu guesses, %zu refuted by play\n", guesses.size(), gone.size());
-        print("played again", begun);
+        const std::vector<Guess> gone =
+            refuted(graph, conditions, guesses, seed + 1 + round, cycles / 4, progress, samples);
         dead.insert(dead.end(), gone.begin(), gone.end());
         if (gone.empty()) break;
     }
@@ -209,53 +217,73 @@ bool find(Graph graph, std::uint64_t seed, std::int64_t cycles, double seconds, 
     const std::vector<int> &limits = graph.list("limits");
     for (std::size_t at = 0; at + 2 < limits.size(); at += 3)
         std::printf("limit %d %d %d\n", limits[at], limits[at + 1], limits[at + 2]);
-    if (!changes.empty()) {
-        prove_changes(graph, conditions, guesses, changes, seconds);
-        return true;
+    return guesses;
+}
+
+// Of what is proved, what the outputs need; those that only take part in the proof are printed, too.
+void print_needed(const Graph &graph, const Conditions &conditions, const std::vector<Guess> &proved, double seconds,
+                  Progress &progress) {
+    progress.enter("reducing");
+    // a mapping is easier to read if a register equals one thing under a condition
+    for (const std::vector<Guess> &some : {first_of_each(proved), proved}) {
+        Proving again(graph, conditions, some, {false, true, 0}, progress);
+        if (!again.reduce(seconds)) continue;
+        const std::vector<char> standing = again.standing();
+        for (std::size_t at = 0; at < some.size(); at++) print_guess(standing[at] ? "needed" : "left", some[at]);
+        return;
     }
-    std::vector<Guess> kept = after_reset(graph, conditions, guesses, 0, seconds);
-    std::fprintf(stderr, "          %zu hold after a reset\n", kept.size());
-    print("reset", begun);
-    Proving step(graph, conditions, kept, {});
-    const bool is_done = step.run(false, goes_on, seconds);
+    for (const Guess &guess : proved) print_guess("needed", guess);
+}
+
+void print_outputs(const Proving &step, std::size_t outputs, bool is_done) {
     const Proving::Counts &counts = step.counts();
     std::printf("asked %lld %lld %lld\n", static_cast<long long>(counts.questions),
                 static_cast<long long>(counts.answered), static_cast<long long>(counts.gone));
-    print(is_done ? "step" : "time is up", begun);
-    const std::size_t outputs = graph.list("same").size();
-    bool is_equal = is_done;
     std::printf("outputs");
-    for (std::size_t at = 0; at < outputs; at++) {
-        is_equal = is_equal && step.output_is_proved(at);
-        std::printf(" %d", is_done && step.output_is_proved(at));
-    }
+    for (std::size_t at = 0; at < outputs; at++) std::printf(" %d", is_done && step.output_is_proved(at));
     std::printf("\n");
+}
+
+// False if outputs differ.
+bool find(Graph graph, std::uint64_t seed, std::int64_t cycles, double seconds, bool goes_on,
+          const std::vector<int> &changes) {
+    Progress progress;
+    bool is_different = false;
+    Samples samples = sampled(graph, seed, cycles, progress, is_different);
+    if (is_different) return false;
+    std::printf("samples %zu %zu\n", samples.size(), samples.number_of_kinds());
+    Conditions conditions(graph);
+    const std::vector<Guess> guesses = guessed(graph, conditions, samples, seed, cycles, progress);
+    if (!changes.empty()) {
+        prove_changes(graph, conditions, guesses, changes, seconds, progress);
+        return true;
+    }
+    const std::vector<Guess> kept = after_reset(graph, conditions, guesses, 0, seconds, progress);
+    progress.enter("proving");
+    Proving step(graph, conditions, kept, {}, progress);
+    const bool is_done = step.run(false, goes_on, seconds);
+    const std::size_t outputs = graph.list("same").size();
+    print_outputs(step, outputs, is_done);
+    bool is_equal = is_done;
+    for (std::size_t at = 0; at < outputs; at++) is_equal = is_equal && step.output_is_proved(at);
     const std::vector<Guess> &all = step.all();
     const std::vector<char> stands = is_equal ? step.standing() : step.holding();
     std::vector<Guess> proved;
     for (std::size_t at = 0; at < all.size(); at++)
         if (stands[at]) proved.push_back(all[at]);
-    // a mapping is easier to read if a register equals one thing under a condition
-    std::vector<Guess> kept_alone = first_of_each(proved);
-    std::vector<char> standing;
-    for (std::vector<Guess> *some : {&kept_alone, &proved}) {
-        if (!is_equal) break;
-        Proving again(graph, conditions, *some, {false, true, 0});
-        const bool is_reduced = again.reduce(seconds);
-        print(is_reduced ? "reduced" : "not reduced", begun);
-        if (!is_reduced) continue;
-        proved = *some;
-        standing = again.standing();
-        break;
-    }
-    for (std::size_t at = 0; at < proved.size(); at++)
-        print_guess(!standing.empty() && standing[at] ? "needed" : "left", proved[at]);
+    if (is_equal)
+        print_needed(graph, conditions, proved, seconds, progress);
+    else
+        for (const Guess &guess : proved) print_guess("left", guess);
     for (const Refuting &state : step.refuting()) {
-        std::printf("state %s %d", state.registers.c_str(), state.earlier);
+        std::printf("state %s %s", state.registers.c_str(), state.inputs.c_str());
         for (const int at : state.gone) std::printf(" %d", at);
+        std::printf("\nreasons");
+        for (const int signal : state.reasons) std::printf(" %d", signal);
         std::printf("\n");
     }
-    if (!is_equal) print_chain(graph, step, seed, cycles / 4);
+    if (!is_equal) print_chain(graph, step, seed, cycles / 4, progress);
+    std::printf("kept %zu\n", kept.size());
     for (const Guess &guess : all) print_guess("guess", guess);
     return true;
 }

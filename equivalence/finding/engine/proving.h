@@ -8,6 +8,8 @@
 #include <cstdio>
 #include <map>
 #include <memory>
+#include <stdexcept>
+#include <string>
 #include <unordered_map>
 #include <vector>
 
@@ -81,6 +83,9 @@ public:
         return gates.both(of(frame, condition), gates.differ(of(frame, 2 * guess.target), of(frame, guess.literal)));
     }
 
+    // Whether something read a signal in the first bit time.
+    bool is_made(int signal) const { return frames[0][signal] >= 0; }
+
     void require(Literal literal) { clause({number(literal)}); }
     // The solver's number of a literal, whose gates it knows from now on.
     int number(Literal literal) {
@@ -142,6 +147,24 @@ public:
         return static_cast<std::size_t>(literal >> 1) < numbers.size() && numbers[literal >> 1];
     }
 
+    // The signals of the first bit time that make a literal of the second one true: no other values matter.
+    std::vector<char> reasons(Literal literal) {
+        std::vector<char> made(gates.gates.size(), 0);
+        std::vector<int> waiting{literal >> 1};
+        while (!waiting.empty()) {
+            const int signal = waiting.back();
+            waiting.pop_back();
+            if (made[signal]) continue;
+            made[signal] = 1;
+            const Gate gate = gates.gates[signal];
+            if (!gate.is_gate()) continue;
+            const bool is_a_false = !value(gate.a), is_b_false = !value(gate.b);
+            if (is_a_false || !is_b_false) waiting.push_back(gate.a >> 1);
+            if (!is_a_false) waiting.push_back(gate.b >> 1);
+        }
+        return made;
+    }
+
     CaDiCaL::Solver solver;
     Gates gates;
 
@@ -158,12 +181,34 @@ private:
     int variables = 1;
 };
 
-// A state before a bit time after which some guesses don't hold, as the values of registers: '?' is any. `earlier` is
-// the number of a state by which a guess was given up that this one doesn't meet; -1 if it meets all that there were.
+// A state before a bit time after which some guesses don't hold, as the values of registers and of inputs: '?' is any.
+// `earlier` is the number of a state by which a guess was given up that this one doesn't meet; -1 if it meets all that
+// there were. `reasons` are the registers of the design whose values make the first of what is given up wrong.
 struct Refuting {
-    std::string registers;
-    std::vector<int> gone;
+    std::string registers, inputs;
+    std::vector<int> gone, reasons;
     int earlier;
+};
+
+struct TimeIsUp : std::runtime_error {
+    TimeIsUp() : std::runtime_error("time is up") {}
+};
+
+// Ends a question when time is up, and shows how far the search is.
+class Waiting : public CaDiCaL::Terminator {
+public:
+    explicit Waiting(Progress &progress) : progress(progress) {}
+
+    void begin(double seconds) { end = play::now_in_seconds() + seconds; }
+    bool terminate() override {
+        progress.show();
+        return play::now_in_seconds() > end;
+    }
+    Progress &shown() { return progress; }
+
+private:
+    Progress &progress;
+    double end = 0;
 };
 
 class Proving {
@@ -181,13 +226,15 @@ public:
 
     // The guesses after `outputs` places are those about registers; the ones before are the compared outputs.
     Proving(const Graph &graph, const Conditions &conditions, const std::vector<Guess> &given_guesses,
-            const Query &query)
+            const Query &query, Progress &progress)
         : graph(graph),
           conditions(conditions),
           resets(query.resets),
           fine(query.fine),
+          waiting(progress),
           unrolled(graph, resets),
           own(graph.list("own").begin(), graph.list("own").end()) {
+        unrolled.solver.connect_terminator(&waiting);
         const Literals &pairs = graph.list("partners");
         for (std::size_t at = 0; at + 1 < pairs.size(); at += 2)
             kinds[pairs[at] >> 1] = pairs[at + 1];
@@ -222,44 +269,39 @@ public:
     }
 
     // Proves the outputs once more, and what their proofs depend on, assuming no more than it takes: as long as a state
-    // refutes a group, the likeliest guesses that this state does not meet are assumed, too.
+    // refutes a group, the likeliest guesses that this state does not meet are assumed, too. False if that fails, or if
+    // time is up.
     bool reduce(double seconds) {
-        const double end = play::now_in_seconds() + seconds;
         is_reducing = true;
-        for (std::size_t at = 0; at < members.size(); at++)
-            if (is_asked(at)) need(static_cast<int>(at));
-        for (std::size_t at = 0; at < queue.size(); at++) {
-            const int which = queue[at];
-            is_queued[which] = 0;
-            while (!prove(which)) {
-                if (play::now_in_seconds() > end) return false;
-                int best = -1;
-                for (std::size_t other = 0; other < members.size(); other++) {
-                    const bool is_better = best < 0 || costs[other] < costs[best];
-                    if (!needed[other] && armed[other] && is_better && is_violated(other))
-                        best = static_cast<int>(other);
+        return in_time(seconds, [&] {
+            for (std::size_t at = 0; at < members.size(); at++)
+                if (is_asked(at)) need(static_cast<int>(at));
+            for (std::size_t at = 0; at < queue.size(); at++) {
+                const int which = queue[at];
+                is_queued[which] = 0;
+                while (!prove(which)) {
+                    const int best = likeliest_violated();
+                    if (best < 0) return false;
+                    need(best);
                 }
-                if (best < 0) return false;
-                need(best);
             }
-        }
-        return true;
+            return true;
+        });
     }
 
     // Proves the outputs, then what their proofs depend on, and so on; or all guesses. Without `goes_on` it ends when
     // an output is refuted. False if time is up.
     bool run(bool everything, bool goes_on, double seconds) {
-        const double end = play::now_in_seconds() + seconds;
-        for (std::size_t at = 0; at < members.size(); at++)
-            if (everything || is_asked(at)) need(static_cast<int>(at));
-        for (std::size_t at = 0; at < queue.size(); at++) {
-            if (play::now_in_seconds() > end) return false;
-            if (is_lost && !goes_on) return true;
-            const int which = queue[at];
-            is_queued[which] = 0;
-            while (!prove(which)) {}
-        }
-        return true;
+        return in_time(seconds, [&] {
+            for (std::size_t at = 0; at < members.size(); at++)
+                if (everything || is_asked(at)) need(static_cast<int>(at));
+            for (std::size_t at = 0; at < queue.size() && (goes_on || !is_lost); at++) {
+                const int which = queue[at];
+                is_queued[which] = 0;
+                while (!prove(which)) {}
+            }
+            return true;
+        });
     }
 
     // All guesses: those given, and weaker ones of those that were given up.
@@ -279,39 +321,82 @@ public:
         return made;
     }
 
-    // What was asked about and is proved, whether the outputs are or not.
-    std::vector<char> holding() const {
-        std::vector<char> made;
-        for (std::size_t at = outputs; at < alive.size(); at++)
-            made.push_back(alive[at] && needed[group[at]] && proved[group[at]]);
-        return made;
-    }
-
     // What the proofs of the outputs depend on.
     std::vector<char> standing() const {
-        std::vector<char> in(members.size(), 0);
-        std::vector<int> waiting;
+        std::vector<int> roots;
         for (std::size_t at = 0; at < members.size(); at++)
-            if (is_asked(at)) waiting.push_back(static_cast<int>(at));
-        while (!waiting.empty()) {
-            const int one = waiting.back();
-            waiting.pop_back();
-            if (in[one]) continue;
-            in[one] = 1;
-            waiting.insert(waiting.end(), core[one].begin(), core[one].end());
+            if (is_asked(at)) roots.push_back(static_cast<int>(at));
+        return alive_in(read_by(roots));
+    }
+
+    // What is inductive, whether the outputs are proved or not: equalities with what has a name, and what they need.
+    std::vector<char> holding() const {
+        std::vector<char> holds(members.size());
+        for (std::size_t at = 0; at < members.size(); at++) holds[at] = needed[at] && proved[at];
+        const auto depends_on_all = [&](std::size_t at) {
+            return std::all_of(core[at].begin(), core[at].end(), [&](int other) { return holds[other] != 0; });
+        };
+        for (bool is_done = false; !is_done;) {
+            is_done = true;
+            for (std::size_t at = 0; at < members.size(); at++)
+                if (holds[at] && !depends_on_all(at)) holds[at] = is_done = false;
         }
-        std::vector<char> made;
-        for (std::size_t at = outputs; at < alive.size(); at++) made.push_back(in[group[at]] && alive[at]);
-        return made;
+        std::vector<int> roots;
+        for (std::size_t at = 0; at < members.size(); at++)
+            if (holds[at] && (at < outputs || is_of_names(at))) roots.push_back(static_cast<int>(at));
+        return alive_in(read_by(roots));
     }
 
 private:
-    static constexpr int DEAD = -1;
+    static constexpr int DEAD = -1, SATISFIABLE = 10;
+
+    // Does some work, whose result is false if time is up.
+    template <typename Work>
+    bool in_time(double seconds, const Work &work) {
+        waiting.begin(seconds);
+        try {
+            return work();
+        } catch (const TimeIsUp &) {
+            return false;
+        }
+    }
+    // Whether the assumed clauses have a solution.
+    bool is_satisfiable() {
+        waiting.shown().count(tally.questions, alive.size() - outputs - static_cast<std::size_t>(tally.gone));
+        const int status = waiting.terminate() ? 0 : unrolled.solver.solve();
+        if (!status) throw TimeIsUp();
+        return status == SATISFIABLE;
+    }
 
     // Outputs, and what the user of the learner has guessed.
     bool is_asked(std::size_t which) const {
         const std::size_t first = static_cast<std::size_t>(members[which].front());
         return which < outputs || always_asked.count(guesses[first - outputs].condition);
+    }
+
+    // These groups, what their proofs depend on, and so on.
+    std::vector<char> read_by(std::vector<int> waiting) const {
+        std::vector<char> made(members.size(), 0);
+        while (!waiting.empty()) {
+            const int one = waiting.back();
+            waiting.pop_back();
+            if (made[one]) continue;
+            made[one] = 1;
+            waiting.insert(waiting.end(), core[one].begin(), core[one].end());
+        }
+        return made;
+    }
+    // Which guesses of some groups are not given up.
+    std::vector<char> alive_in(const std::vector<char> &groups_in) const {
+        std::vector<char> made;
+        for (std::size_t at = outputs; at < alive.size(); at++) made.push_back(groups_in[group[at]] && alive[at]);
+        return made;
+    }
+    // Whether a guess of a group compares with a constant, or with a word that has a name.
+    bool is_of_names(std::size_t which) const {
+        return std::any_of(members[which].begin(), members[which].end(), [&](int at) {
+            return alive[at] && kind(guesses[static_cast<std::size_t>(at) - outputs]) <= KNOWN;
+        });
     }
 
     // Adds what is never to hold, in the first bit time and after it, to a group.
@@ -381,7 +466,7 @@ private:
         for (const int at : members[which])
             if (alive[at] && after[at]) clause.push_back(unrolled.number(after[at]));
         core[which].clear();
-        proved[which] = 1;
+        proved[which] = clause.empty();
         if (clause.empty()) return true;
         const int asked = unrolled.variable();
         clause.insert(clause.begin(), -asked);
@@ -397,8 +482,9 @@ private:
                 if (armed[at] && (needed[at] || (!is_reducing && (all || likely[at]))))
                     unrolled.solver.assume(armed[at]);
             unrolled.solver.assume(asked);
-            is_refuted = unrolled.solver.solve() == 10;
+            is_refuted = is_satisfiable();
         }
+        proved[which] = !is_refuted;
         if (is_refuted && is_reducing)
             keep_values();
         else if (is_refuted)
@@ -437,7 +523,8 @@ private:
             gone.push_back(static_cast<int>(at));
             is_hit[of] = 1;
         }
-        states.push_back({state(), gone, earlier()});
+        const std::vector<char> reasons = reasons_for(gone);
+        states.push_back({state(), inputs(), gone, of_design(reasons), earlier(reasons)});
         for (const int at : gone) {
             alive[at] = 0;
             given_up_by[at] = static_cast<int>(states.size()) - 1;
@@ -491,22 +578,57 @@ private:
         return false;
     }
 
-    // The first state by which a guess was given up that the state found does not meet.
-    int earlier() {
-        int made = -1;
-        for (std::size_t at = outputs; at < alive.size(); at++)
-            if (given_up_by[at] >= 0 && (made < 0 || given_up_by[at] < made) && before[at] > 1 &&
-                unrolled.value(before[at]))
-                made = given_up_by[at];
+    std::vector<char> reasons_for(const std::vector<int> &gone) {
+        const int refuted = *std::find_if(gone.begin(), gone.end(), [&](int at) { return unrolled.value(after[at]); });
+        return unrolled.reasons(after[refuted]);
+    }
+    bool is_reason(const std::vector<char> &reasons, int signal) {
+        if (!unrolled.is_made(signal)) return false;
+        const auto at = static_cast<std::size_t>(unrolled.of(0, 2 * signal) >> 1);
+        return at < reasons.size() && reasons[at];
+    }
+    std::vector<int> of_design(const std::vector<char> &reasons) {
+        std::vector<int> made;
+        for (const int signal : graph.list("design"))
+            if (is_reason(reasons, signal)) made.push_back(signal);
         return made;
     }
 
+    // The first state by which a guess was given up that the state found does not meet: a guess about a register whose
+    // value is a reason for what is refuted; if there is none, any guess.
+    int earlier(const std::vector<char> &reasons) {
+        int any = -1, of_reasons = -1;
+        const auto take = [](int &first, int state) { first = first < 0 ? state : std::min(first, state); };
+        for (std::size_t at = outputs; at < alive.size(); at++) {
+            if (given_up_by[at] < 0 || before[at] < 2 || !unrolled.value(before[at])) continue;
+            take(any, given_up_by[at]);
+            if (is_reason(reasons, guesses[at - outputs].target)) take(of_reasons, given_up_by[at]);
+        }
+        return of_reasons < 0 ? any : of_reasons;
+    }
+
+    int likeliest_violated() const {
+        int best = -1;
+        for (std::size_t at = 0; at < members.size(); at++) {
+            const bool is_better = best < 0 || costs[at] < costs[best];
+            if (!needed[at] && armed[at] && is_better && is_violated(at)) best = static_cast<int>(at);
+        }
+        return best;
+    }
+
+    char value_before(int signal) {
+        if (!unrolled.is_made(signal)) return '?';
+        const Literal literal = unrolled.of(0, 2 * signal);
+        return !unrolled.is_known(literal) ? '?' : unrolled.value(literal) ? '1' : '0';
+    }
     std::string state() {
         std::string made;
-        for (const Register &held : play::registers_of(graph, "registers")) {
-            const Literal literal = unrolled.of(0, 2 * held.signal);
-            made += !unrolled.is_known(literal) ? '?' : unrolled.value(literal) ? '1' : '0';
-        }
+        for (const Register &held : play::registers_of(graph, "registers")) made += value_before(held.signal);
+        return made;
+    }
+    std::string inputs() {
+        std::string made;
+        for (const int signal : graph.list("inputs")) made += value_before(signal);
         return made;
     }
 
@@ -514,6 +636,7 @@ private:
     const Conditions &conditions;
     std::vector<Guess> guesses;
     bool resets, fine, is_reducing = false, is_lost = false;
+    Waiting waiting;
     Unrolled unrolled;
     std::size_t outputs = 0;
     std::unordered_set<int> own, always_asked;

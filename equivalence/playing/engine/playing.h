@@ -99,7 +99,7 @@ private:
         const Lanes enabled = program.value(wiring.enable), compared = valid & ~resets & enabled;
         compare(compared);
         count_all(compared);
-        if (watching) watching(program, compared, cycle);
+        if (watching) watching(program, valid & ~resets, cycle);
         if (recording >= 0) take_record(has(resets, recording), has(enabled, recording));
         fresh = enabled | resets;
         end_step();
@@ -137,7 +137,8 @@ private:
         choose_others(begins & (~modes.others_kept | random.rare(6)));
     }
 
-    // The wiring's other inputs in each bit time, and some of what is undefined in the design.
+    // The wiring's other inputs in each bit time, and some of what is undefined in the design. What a bit time waits for
+    // changes with each clock cycle.
     void choose_others(Lanes renewed) {
         const std::size_t named = wiring.named;
         if (!wiring.given.empty()) keep_others();
@@ -148,7 +149,7 @@ private:
                 at += UNDEFINED - 1;
             if (at >= wiring.others.size()) return;
             Lanes &held = program.signal(wiring.others[at]);
-            held = choose(renewed, random.half(), held);
+            held = choose(wiring.pacing[at] ? all() : renewed, random.half(), held);
         }
     }
 

@@ -45,6 +45,7 @@ struct Wiring {
     std::vector<Register> registers;
     std::vector<int> others, changes;  // other free signals; those that choose a change of the design
     std::size_t named;                 // how many of the others are inputs of the wiring; the rest is undefined
+    std::vector<int> pacing;           // which of the others decide whether a bit time ends
     Literals phase, same, given;
     Literal enable, sender;
 
@@ -54,6 +55,7 @@ struct Wiring {
           others(graph.list("others")),
           changes(graph.list("changes")),
           named(graph.number("named")),
+          pacing(graph.list("pacing")),
           phase(graph.list("phase")),
           same(graph.list("same")),
           given(graph.list("given")),

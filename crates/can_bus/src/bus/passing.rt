@@ -24,9 +24,9 @@ use crate::call::Call;
 use crate::moment::rest_after;
 use crate::offer::Offer;
 use can_frame::{Frame, IDLE_ROW, Key, Level};
-use can_hit::Hit;
 use can_mac::Poised;
 use can_node::Port;
+use can_terms::Hit;
 use std::cmp::Ordering;
 
 /// A frame that is hit is ridden only for at least this many bit times. Chosen for speed; the proofs need only a

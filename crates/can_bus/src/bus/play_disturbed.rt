@@ -5,7 +5,7 @@ ghost use Rattle.can_frame.specs.Parts.{IsFrame};
 ghost use Rattle.can_bus.specs.declared.offer.Offer.{Offer as Asked};
 ghost use Rattle.can_bus.specs.Course.{AllEnded, course_at, hits_made};
 ghost use Rattle.can_bus.specs.DisturbedPlay.{WasPlayed};
-ghost use Rattle.can_hit.specs.Hits.{AreTaken};
+ghost use Rattle.can_terms.specs.Hits.{AreTaken};
 ghost use Rattle.can_bus.specs.Inputs.{IsFirstHitFault};
 ghost use Rattle.can_bus.specs.Network.{AllCountAtMost, AllOver, CountsAtMost, NetworkLogBegins, NetworkLogHas, NetworkLogWhole, NetworkTally, OnNetworkCall, RestsAgain, StaysActive};
 ghost use Rattle.can_bus.specs.Offers.{call_after, call_level, call_refused, offered_now, AreOffered, IsFirstOfferFault, all_made, is_full, made, refused_at};
@@ -21,8 +21,8 @@ use crate::fault::BusFault;
 use crate::offer::Offer;
 use crate::wire::wired_level;
 use can_frame::Level;
-use can_hit::Hit;
 use can_node::Port;
+use can_terms::Hit;
 
 /// The offers made so far: those before this place, of which `refused` found a full queue.
 #[derive(Clone, Copy)]

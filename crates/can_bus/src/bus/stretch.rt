@@ -11,8 +11,8 @@ ghost use Rattle.can_bus.specs.Wired.{wired as wired_of};
 use crate::bus::Bus;
 use crate::call::Call;
 use can_frame::{IDLE_ROW, Level};
-use can_hit::Hit;
 use can_node::Port;
+use can_terms::Hit;
 
 impl<P: Port> Bus<P> {
     /// Runs at least one bit time and at most one for each place of `rec`, and records their levels. `driven` is the

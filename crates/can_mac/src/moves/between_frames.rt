@@ -4,11 +4,11 @@ ghost use Rattle.std.specs.Prelude.{◌≡◌, ◌<◌};
 ghost use Rattle.std.specs.Option.{option_copied};
 ghost use Rattle.can_mac.specs.Moves.{idle_move, intermission_move, joining_move, next_role, suspend_move};
 
-use crate::event::ErrorKind;
 use crate::moves::{Entering, Stance};
 use crate::phase::{Phase, Role};
 use can_code::Sending;
 use can_frame::{Frame, IDLE_ROW, Level};
+use can_terms::ErrorKind;
 
 /// After this many recessive levels in a row, the next one ends joining.
 pub(crate) const LAST_OF_JOINING: u8 = IDLE_ROW - 1;

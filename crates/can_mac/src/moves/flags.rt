@@ -3,11 +3,11 @@
 ghost use Rattle.std.specs.Prelude.{◌≡◌, ◌<◌};
 ghost use Rattle.can_mac.specs.Moves.{after_flag_move, delimiter_move, dominant_cause, error_flag_move, overload_flag_move, passive_flag_move};
 
-use crate::event::ErrorKind;
 use crate::moves::{Entering, Move, Stance};
 use crate::phase::{Phase, Role};
 use can_fault::Cause;
 use can_frame::Level;
+use can_terms::ErrorKind;
 
 /// The last place of a flag.
 pub(crate) const LAST_OF_FLAG: u8 = 5;

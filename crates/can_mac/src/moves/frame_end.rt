@@ -3,12 +3,12 @@
 ghost use Rattle.std.specs.Prelude.{◌≡◌};
 ghost use Rattle.can_mac.specs.Moves.{ack_delimiter_move, ack_slot_move, crc_delimiter_move, end_of_frame_move, receiver_end_move, refuses, sender_end_move, unacknowledged_move};
 
-use crate::event::{ErrorKind, Event};
 use crate::moves::{Entering, Move, Stance};
 use crate::phase::{Phase, Reading, Role};
 use can_code::Sending;
 use can_fault::Cause;
 use can_frame::Level;
+use can_terms::{ErrorKind, Event};
 
 /// The last place of the end of frame.
 pub(crate) const LAST_OF_FRAME: u8 = 6;

@@ -24,7 +24,6 @@ ghost use Rattle.can_mac.specs.declared.phase.Phase.TheVariants.{AckDelimiter, A
 ghost use Rattle.can_mac.specs.declared.phase.Reading.{Reading as ReadingParts};
 ghost use Rattle.can_mac.specs.declared.phase.Role.{Role as Part};
 
-use crate::event::Event;
 use crate::moves::between_frames::{
     LAST_OF_INTERMISSION, LAST_OF_JOINING, LAST_OF_SUSPEND, role_in_next,
 };
@@ -36,6 +35,7 @@ use crate::phase::{Overloads, Phase, Role};
 use can_code::{FrameBits, Front, Place};
 use can_fault::Cause;
 use can_frame::{Frame, Level};
+use can_terms::Event;
 
 /// Takes a level that changes only the phase, in place, and returns true. On any other level it returns false and
 /// changes nothing.

@@ -8,11 +8,11 @@ ghost use Rattle.can_mac.specs.Quick.{is_heard};
 ghost use Rattle.can_mac.specs.declared.moves.Stance.{Stance as Standing};
 ghost use Rattle.can_mac.specs.declared.phase.Phase.TheVariants.{StuffedPart};
 
-use crate::event::{ErrorKind, Event};
 use crate::moves::{Entering, Hearing, Move, NewFrame, Stance};
 use crate::phase::{Phase, Reading, Role};
 use can_code::{FrameBits, Front, Place, Sending, rtr_place};
 use can_frame::Level;
+use can_terms::{ErrorKind, Event};
 
 /// A level of the stuffed part.
 pub(crate) fn stuffed_part<B: FrameBits>(

@@ -1,6 +1,6 @@
 //! The injected bit errors of a scenario's document.
 ghost use Rattle.std.specs.Prelude.{◌≡◌, ◌↔◌, ℕ, Option, Some, map, option_map, IfErr, IfOk, IfSome, IsErrOf, IsNone, IsTrue, MatchOption, OnOk};
-ghost use Rattle.can_hit.specs.Hits.{AreTaken, hit_names_port as names_port_of};
+ghost use Rattle.can_terms.specs.Hits.{AreTaken, hit_names_port as names_port_of};
 ghost use Rattle.toml.specs.Data.{table};
 ghost use Rattle.toml.specs.View.{view, table_view};
 ghost use Rattle.document_values.specs.Demands.{AllMet, IsFirstUnmet};
@@ -9,8 +9,8 @@ ghost use Rattle.can_scenario_text.specs.Scenarios.{hit_in as hit_said, hit_dema
 ghost use Rattle.can_stream.specs.declared.field.Field.{Field as Wrong};
 
 use crate::scenario::{Field, HitList};
-use can_hit::Hit;
 use can_stream::TraceFault;
+use can_terms::Hit;
 use document_values::{field, two_of, whole_number};
 use std::alloc::Global;
 use toml::{Table, Value};

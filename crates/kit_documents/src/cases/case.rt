@@ -16,7 +16,7 @@ use crate::cases::timed::read_lists;
 use crate::cases::words::{Choice, Needs};
 use crate::fault::KitFault;
 use crate::field::CaseField;
-use can_conform::Script;
+use can_terms::Script;
 use document_values::{elements_or_none, fields_of, has_only};
 use std::alloc::Global;
 use toml::{Table, Value};

@@ -2,7 +2,7 @@
 ghost use Rattle.std.specs.Prelude.{◌≤◌, codes, IfNone, IfOk, IfSome, IsErrOf, OnOk, OnSome};
 ghost use Rattle.toml.specs.Data.{table};
 ghost use Rattle.toml.specs.View.{table_view};
-ghost use Rattle.can_conform.specs.declared.script.Start.{Start as StartSaid};
+ghost use Rattle.can_terms.specs.declared.script.Start.{Start as StartSaid};
 ghost use Rattle.kit_documents.specs.declared.field.KitField.{KitField as Wrong};
 ghost use Rattle.document_values.specs.Demands.{AllMet, IsFirstUnmet};
 ghost use Rattle.document_values.specs.Values.{named, IsNumber, IsRequired};
@@ -12,7 +12,7 @@ ghost use Rattle.kit_documents.specs.Cases.{head_demands, longest_case, IsLength
 use crate::cases::words::{Choice, Needs, choices_in, needs_in, start_in};
 use crate::fault::KitFault;
 use crate::field::CaseField;
-use can_conform::Start;
+use can_terms::Start;
 use document_values::{field, required_number};
 use std::alloc::Global;
 use toml::Table;

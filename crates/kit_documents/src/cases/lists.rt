@@ -10,8 +10,8 @@ ghost use Rattle.kit_documents.specs.Lists.{apart as apart_of, case_element_fiel
 use crate::elements::{Element, ElementFault, read_elements};
 use crate::fault::KitFault;
 use crate::field::CaseField;
-use can_conform::Timed;
 use can_frame::Frame;
+use can_terms::Timed;
 use document_values::{elements_or_none, frame, number, two_of, whole_number};
 use std::alloc::Global;
 use toml::{Table, Value};

@@ -14,8 +14,8 @@ use crate::cases::lists::{CaseList, read_list};
 use crate::cases::tester::forced_tester;
 use crate::fault::KitFault;
 use crate::field::CaseField;
-use can_conform::{TesterLevel, Timed};
 use can_frame::{Frame, Level};
+use can_terms::{TesterLevel, Timed};
 use std::alloc::Global;
 use toml::Table;
 

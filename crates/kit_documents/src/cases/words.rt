@@ -4,14 +4,14 @@ ghost use Rattle.std.specs.Prelude.{◌==◌, not, ◌≡◌, ◌≢◌, ◌↔�
 ghost use Rattle.toml.specs.Data.{string, table};
 ghost use Rattle.toml.specs.View.{table_view, view};
 ghost use Rattle.document_values.specs.Values.{named};
-ghost use Rattle.can_conform.specs.declared.script.Start.{Start as StartSaid};
+ghost use Rattle.can_terms.specs.declared.script.Start.{Start as StartSaid};
 ghost use Rattle.kit_documents.specs.declared.cases.words.Needs.{Needs as NeedsSaid};
 ghost use Rattle.kit_documents.specs.declared.cases.words.Choice.{Choice as ChoiceSaid};
 ghost use Rattle.kit_documents.specs.CaseWords.{choice_word, IsPurpose, SaysChoices, SaysNeeds, SaysStart};
 ghost use Rattle.kit_documents.specs.CaseWords.{TakesWord};
 
 use crate::tables::text_of;
-use can_conform::Start;
+use can_terms::Start;
 use document_values::elements_or_none;
 use std::alloc::{AllocError, Global};
 use toml::{Table, Value};

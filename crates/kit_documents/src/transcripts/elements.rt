@@ -1,16 +1,15 @@
 //! Events, counters and the end of a transcript.
 ghost use Rattle.std.specs.Prelude.{MatchOption};
 ghost use Rattle.toml.specs.View.{view};
-ghost use Rattle.can_conform.specs.declared.transcript.Counters.{Counters as CountersSaid};
-ghost use Rattle.can_conform.specs.declared.transcript.Ending.{Ending as EndingSaid};
+ghost use Rattle.can_terms.specs.declared.transcript.Counters.{Counters as CountersSaid};
+ghost use Rattle.can_terms.specs.declared.transcript.Ending.{Ending as EndingSaid};
 ghost use Rattle.kit_documents.specs.Elements.{SayCounters, SaysChange, SaysEnd, SaysEventAt};
 
 use crate::elements::Element;
 use crate::tables::text_of;
 use crate::transcripts::lists::TranscriptList;
 use crate::words::events::{read_event, read_state};
-use can_conform::{Counters, Ending, Timed};
-use can_mac::Event;
+use can_terms::{Counters, Ending, Event, Timed};
 use document_values::{number, three_of, two_of, whole_number};
 use toml::Value;
 

@@ -2,7 +2,7 @@
 ghost use Rattle.std.specs.Prelude.{◌≡◌, All, Some, codes, map, IfOk, IsErrOf, OnOk};
 ghost use Rattle.toml.specs.Data.{table};
 ghost use Rattle.toml.specs.View.{table_view, view};
-ghost use Rattle.can_conform.specs.Transcripts.{IsTold};
+ghost use Rattle.can_terms.specs.Cases.{IsTold};
 ghost use Rattle.kit_documents.specs.declared.field.KitField.{KitField as Wrong};
 ghost use Rattle.document_values.specs.Demands.{AllMet, IsFirstUnmet};
 ghost use Rattle.document_values.specs.Values.{named, ArePaired, IsRequired};
@@ -19,7 +19,7 @@ use crate::transcripts::elements::end_in;
 use crate::transcripts::known::Known;
 use crate::transcripts::lists::{TranscriptList, read_list};
 use crate::transcripts::naming::case_in;
-use can_conform::{Ending, Transcript};
+use can_terms::{Ending, Transcript};
 use document_values::{field, fields_of, has_only};
 use std::alloc::Global;
 use toml::{Table, Value};

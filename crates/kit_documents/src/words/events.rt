@@ -3,13 +3,13 @@ ghost use Rattle.std.specs.Prelude.{ℕ, ◌≡◌, ◌≢◌, ◌++◌, List, N
 ghost use Rattle.can_fault.specs.declared.state.State.{State as StateSaid};
 ghost use Rattle.can_frame.specs.Parts.{IsFrame, Parts};
 ghost use Rattle.can_frame.specs.Text.{frame_text};
-ghost use Rattle.can_mac.specs.declared.event.Event.{Event as EventSaid};
+ghost use Rattle.can_terms.specs.declared.event.Event.{Event as EventSaid};
 ghost use Rattle.can_fault.specs.Words.{state_word};
 ghost use Rattle.kit_documents.specs.Events.{event_text, event_frame, SaysEvent};
 
 use can_fault::State;
 use can_frame::Frame;
-use can_mac::{ErrorKind, Event};
+use can_terms::{ErrorKind, Event};
 
 /// Returns the event with exactly this text, as [`push_event`](crate::push_event) writes it.
 pub fn read_event(text: &str) -> Option<Event>

@@ -1,6 +1,6 @@
 use Rattle.std.proofs.Common.{◌≡◌, map, take}
 use Rattle.can_node.specs.Ports.{port_drives}
-use Rattle.can_hit.specs.declared.hit.Hit.TheVariants.{View}
+use Rattle.can_terms.specs.declared.hit.Hit.TheVariants.{View}
 use Rattle.can_bus.specs.Walks.{AreBelow}
 use Rattle.can_bus.specs.Wired.{wired}
 use Rattle.can_bus.proofs.PortLoops.{front_at, sampled}

@@ -1,5 +1,5 @@
 use Rattle.std.proofs.Common.{◌≡◌, true, false, rules, refl}
-use Rattle.can_hit.specs.Hits.{AreTaken}
+use Rattle.can_terms.specs.Hits.{AreTaken}
 use Rattle.can_bus.specs.Offers.{AreOffered}
 use Rattle.can_bus.proofs.check.check_call.Goals as goal
 

@@ -1,6 +1,6 @@
 use Rattle.std.proofs.Common.{◌≡◌, Some, length, map, inr, true, refl, sym, ap, subst, ◌∙◌, arith}
 use Rattle.std.proofs.lemmas.List.{take_at}
-use Rattle.can_hit.specs.Hits.{AreTaken}
+use Rattle.can_terms.specs.Hits.{AreTaken}
 use Rattle.can_bus.specs.Network.{OnNetworkCall}
 use Rattle.can_bus.specs.Offers.{call_after, call_level, call_refused, AreOffered}
 use Rattle.can_bus.specs.Run.{AreLevelsOf, new_bus}

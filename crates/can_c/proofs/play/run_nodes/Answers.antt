@@ -5,7 +5,7 @@ use Rattle.std.specs.Vec.{vec_items}
 use Rattle.can_bus.specs.Offers.{call_level, call_refused, AreOffered}
 use Rattle.can_bus.specs.Run.{AreLevelsOf, BusState, new_bus}
 use Rattle.can_bus.specs.State.{bus_state, port_count, port_states}
-use Rattle.can_hit.specs.Hits.{AreTaken}
+use Rattle.can_terms.specs.Hits.{AreTaken}
 use Rattle.can_node.proofs.NodePort.{node_port}
 use Rattle.can_c.specs.Play.{IsPlayFault}
 use Rattle.can_c.proofs.PlayLemmas.{begun, both-ways, network-same, run-ports, run-size}

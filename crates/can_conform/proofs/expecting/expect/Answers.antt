@@ -1,7 +1,7 @@
 use Rattle.std.specs.Prelude.{if◌then◌else◌}
 use Rattle.std.proofs.Common.{◌≡◌, ◌+◌, ◌<◌, Option, Some, None, length, sym, subst, ap, ◌∙◌, arith, rules}
 use Rattle.can_conform.specs.declared.moment.Moment.{Moment}
-use Rattle.can_conform.specs.declared.transcript.Counters.{Counters}
+use Rattle.can_terms.specs.declared.transcript.Counters.{Counters}
 use Rattle.can_conform.specs.Runs.{before, counters_of, ending_of, moment_at}
 use Rattle.can_conform.specs.Transcripts.{changed_in, same_counters}
 use Rattle.can_conform.specs.Walks.{Foresees}

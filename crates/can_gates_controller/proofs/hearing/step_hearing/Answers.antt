@@ -22,7 +22,7 @@ returns c = (
                     let going = is_going m.phase front is is_mac.phase in
                     (read.1 m.role front x (hears.front front is) going.front.short (is_short front going) sees.seen (sees.sender front is)).1;
               }),
-              behind.1 m.phase _ m.role _ waiting x (within.1 m.phase held.phase) hears
+              behind.1 m.phase _ m.role _ waiting x is_mac.phase (within.1 m.phase held.phase) hears
                   (λ front is.
                   let going = is_going m.phase front is is_mac.phase in
                   (read.1 m.role front x (hears.front front is) going.front.short (is_short front going) sees.seen (sees.sender front is)).0)

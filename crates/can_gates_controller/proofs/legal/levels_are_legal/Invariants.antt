@@ -7,4 +7,4 @@ use Rattle.can_gates_controller.proofs.legal.levels_are_legal.Given as goal
 
 -- whether the places so far go past the levels that are heard, and are legal
 abbrev pub invariant-loop-place : goal.invariant-loop-place
-invariant-loop-place l = Makes l.fn.circuit l.circuit (λ v. (value v l.behind ≡ nat_lt (number v l.heard.count) l.place) × ((u : List Level) → HoldsLevels v l.heard.levels u → number v l.heard.count ≡ length u → value v l.legal ≡ true))
+invariant-loop-place l = Makes l.fn.circuit l.circuit (λ v. (value v l.behind ≡ nat_lt (number v l.count) l.place) × ((u : List Level) → HoldsLevels v l.levels u → number v l.count ≡ length u → value v l.legal ≡ true))

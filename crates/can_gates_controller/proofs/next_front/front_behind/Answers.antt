@@ -10,5 +10,5 @@ returns c = (
       let made = c.choose_heard.ensures.1 v keeps in
       let kept = c.choose_heard-kept.ensures.1 v made.0 in
       let zero_is = zero-kept v c.args.circuit.now kept.0 in
-      (kept.0, λ p q role new waiting x within held hears is. followed v c.choose_heard.result c.choose_heard-kept.result c.first_heard-first.result c.args.heard.now c.args.next.now c.args.within p q role new waiting x within held hears is made.1 kept.1 (c.first_heard-first.ensures v zero_is)),
+      (kept.0, λ p q role new waiting x phase within held hears is. followed v c.choose_heard.result c.choose_heard-kept.result c.first_heard-first.result c.args.heard.now c.args.next.now c.args.within p q role new waiting x phase within held hears is made.1 kept.1 (c.first_heard-first.ensures v zero_is)),
 )

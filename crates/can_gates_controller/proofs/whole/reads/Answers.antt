@@ -20,7 +20,7 @@ returns c = (
           waits = waits;
           agrees = λ r is.
               let told = held.heard.told r is in
-              let long : 15 ≤ length told.unstuffed = omega (arith, told.whole, frame_len_ge told.unstuffed) in
+              let long : 15 ≤ length told.unstuffed = omega (arith, told.complete.whole, frame_len_ge told.unstuffed) in
               agrees.1 told.unstuffed long told.check ∙ sym (ap (λ q. q.agrees) told.told);
           part = λ front is.
               let here = held.heard.front front is in

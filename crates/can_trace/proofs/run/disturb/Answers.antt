@@ -1,6 +1,6 @@
 use Rattle.std.proofs.Common.{◌≡◌, false, true, length, map, arith, ◌∙◌}
 use Rattle.std.proofs.lemmas.List.{take_at}
-use Rattle.can_hit.specs.Hits.{AreTaken}
+use Rattle.can_terms.specs.Hits.{AreTaken}
 use Rattle.can_bus.specs.State.{bus_state}
 use Rattle.can_trace.specs.Report.{waiting_port}
 use Rattle.can_node.proofs.NodePort.{node_port}

@@ -2,7 +2,7 @@ use Rattle.std.proofs.Common.{◌≡◌, ap, refl, rules, Err}
 use Rattle.canbit_commands.proofs.Faults.{caused, differing, faulted, finished, not-both, not-ok, passes_all, passes_not_all, the-same, told-cause, uncaused, weaker}
 use Rattle.canbit_commands.specs.Answers.{HasBadLine, HasWrongField}
 use Rattle.canbit_commands.specs.declared.fault.CanbitFault.TheVariants.{Stream}
-use Rattle.canbit_words.specs.declared.subcommands.Chosen.TheVariants.{Encode, Decode, Run, Check}
+use Rattle.canbit_commands.specs.declared.subcommands.Chosen.TheVariants.{Encode, Decode, Run, Check}
 use Rattle.canbit_commands.proofs.program.answer.Goals as goal
 
 pub returns-in_err-encode_lines-in-Encode : goal.returns-in_err-encode_lines-in-Encode

@@ -7,7 +7,7 @@ use Rattle.std.proofs.lemmas.Option.{slice_get-get_or}
 use Rattle.can_frame.specs.declared.level.Level.TheVariants.{Recessive}
 use Rattle.can_bus.specs.DisturbedPlay.{WasPlayed}
 use Rattle.can_bus.specs.declared.call.Call.{Call}
-use Rattle.can_hit.specs.Hits.{AreTaken}
+use Rattle.can_terms.specs.Hits.{AreTaken}
 use Rattle.can_bus.specs.Inputs.{IsFirstHitFault}
 use Rattle.can_bus.specs.Offers.{IsFirstOfferFault, call_after, call_level, call_refused, offered_now, AreOffered, refused_at}
 use Rattle.can_bus.specs.Run.{AreLevelsOf, CallState}

@@ -1,6 +1,6 @@
 use Rattle.std.proofs.Common.{◌≡◌, true, get_or, rules, arith}
-use Rattle.can_hit.specs.declared.hit.Hit.TheVariants.{At}
-use Rattle.can_hit.specs.Hits.{is_above}
+use Rattle.can_terms.specs.declared.hit.Hit.TheVariants.{At}
+use Rattle.can_terms.specs.Hits.{is_above}
 use Rattle.can_bus.proofs.CursorLemmas.{reach_none, reach_past}
 use Rattle.can_bus.proofs.cursor.Cursor.reach.Goals as goal
 

@@ -3,10 +3,11 @@ use Rattle.std.proofs.Common.{◌≡◌, Some, None, length, refl, ap, sym, ◌�
 use Rattle.std.proofs.lemmas.Option.{slice_get_past, slice_get_read}
 use Rattle.std.specs.Option.{unwrap_or}
 use Rattle.can_frame.specs.declared.level.Level.TheVariants.{Recessive}
-use Rattle.can_mac.specs.State.{MacState}
+use Rattle.can_mac.specs.State.{MacState, kind_of}
 use Rattle.can_conform.specs.declared.moment.Moment.{Moment}
-use Rattle.can_conform.specs.Runs.{before, last_event, moment_at, seen_by}
-use Rattle.can_conform.specs.Standings.{phase_name, rule_after}
+use Rattle.can_terms.specs.Cases.{seen_by}
+use Rattle.can_conform.specs.Runs.{before, last_event, moment_at}
+use Rattle.can_conform.specs.Standings.{rule_after}
 use Rattle.can_conform.proofs.RunLemmas.{rule-met, rule-stays, since-more, since-stays}
 use Rattle.can_conform.proofs.watch.Watch.follow.Goals as goal
 
@@ -31,12 +32,12 @@ returns-clause-rule g c =
     let here = sym (ap (λ xs. slice_get xs t) c.deref.ensures.value) ∙ there in
     let s = c.args.script.now in
     let event = (moment_at s t).event in
-    let phase = phase_name (before s t).mac in
+    let phase = kind_of (before s t).mac in
     let seen : c.seen_by-seen.result ≡ seen_by x (unwrap_or (moment_at s t).drove Recessive) =
     c.seen_by-seen.ensures ∙ ap (seen_by x) (c.unwrap_or.ensures ∙ ap (λ (m : Moment). unwrap_or m.drove Recessive) c.requires.moment) in
     c.rule_after-self.ensures
-    ∙ ap (λ (m : Moment). rule_after m.event c.args.place.phase c.seen_by-seen.result c.args.next.now) c.requires.moment
-    ∙ ap (λ n. rule_after event n c.seen_by-seen.result c.args.next.now) c.requires.place
+    ∙ ap (λ (m : Moment). rule_after m.event c.args.position.phase c.seen_by-seen.result c.args.next.now) c.requires.moment
+    ∙ ap (λ n. rule_after event n c.seen_by-seen.result c.args.next.now) c.requires.position
     ∙ ap (λ l. rule_after event phase l c.args.next.now) seen
     ∙ ap (λ (m : MacState). rule_after event phase (seen_by x (unwrap_or (moment_at s t).drove Recessive)) m) c.requires.next
     ∙ rule-met s t x here

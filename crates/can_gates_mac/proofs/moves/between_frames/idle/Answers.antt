@@ -1,7 +1,7 @@
 use Rattle.std.proofs.Common.{◌∙◌}
 use Rattle.std.specs.Prelude.{Some}
 use Rattle.can_fault.specs.declared.cause.Cause.TheVariants.{SenderError}
-use Rattle.can_mac.specs.declared.event.ErrorKind.TheVariants.{Bit}
+use Rattle.can_terms.specs.declared.event.ErrorKind.TheVariants.{Bit}
 use Rattle.can_mac.specs.declared.phase.Role.TheVariants.{Receiver, Sender}
 use Rattle.can_gates.proofs.Constants.{value-never, value-always}
 use Rattle.can_gates_mac.proofs.PhaseMoves.{idle_rows}

@@ -1,5 +1,5 @@
 use Rattle.std.proofs.Common.{◌∙◌}
-use Rattle.can_mac.specs.declared.event.ErrorKind.TheVariants.{Form}
+use Rattle.can_terms.specs.declared.event.ErrorKind.TheVariants.{Form}
 use Rattle.can_gates.proofs.Constants.{value-always}
 use Rattle.can_gates_mac.proofs.PhaseMoves.{delimiter_rows}
 use Rattle.can_gates_mac.proofs.moves.flags.delimiter.Goals as goal

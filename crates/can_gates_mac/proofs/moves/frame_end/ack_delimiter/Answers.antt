@@ -1,6 +1,6 @@
 use Rattle.std.proofs.Common.{◌∙◌}
 use Rattle.std.proofs.Common.{refl}
-use Rattle.can_mac.specs.declared.event.ErrorKind.TheVariants.{Crc}
+use Rattle.can_terms.specs.declared.event.ErrorKind.TheVariants.{Crc}
 use Rattle.can_gates.proofs.Constants.{value-always}
 use Rattle.can_gates_mac.proofs.PhaseMoves.{ack_delimiter_rows}
 use Rattle.can_gates_mac.proofs.moves.frame_end.ack_delimiter.Goals as goal

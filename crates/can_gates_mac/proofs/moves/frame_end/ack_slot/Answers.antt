@@ -1,6 +1,6 @@
 use Rattle.std.proofs.Common.{◌∙◌}
 use Rattle.std.proofs.Common.{refl}
-use Rattle.can_mac.specs.declared.event.ErrorKind.TheVariants.{Bit, Ack}
+use Rattle.can_terms.specs.declared.event.ErrorKind.TheVariants.{Bit, Ack}
 use Rattle.can_gates.proofs.Constants.{value-always}
 use Rattle.can_gates_mac.proofs.PhaseMoves.{ack_slot_rows}
 use Rattle.can_gates_mac.proofs.moves.frame_end.ack_slot.Goals as goal

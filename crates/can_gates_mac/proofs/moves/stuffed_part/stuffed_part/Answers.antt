@@ -1,6 +1,6 @@
 use Rattle.std.specs.Prelude.{None}
 use Rattle.std.proofs.Common.{◌∙◌}
-use Rattle.can_mac.specs.declared.event.ErrorKind.TheVariants.{Bit, Stuff}
+use Rattle.can_terms.specs.declared.event.ErrorKind.TheVariants.{Bit, Stuff}
 use Rattle.can_gates.proofs.Constants.{value-always}
 use Rattle.can_gates_mac.proofs.PartMoves.{stuffed_part_rows}
 use Rattle.can_gates_mac.proofs.moves.stuffed_part.stuffed_part.Goals as goal

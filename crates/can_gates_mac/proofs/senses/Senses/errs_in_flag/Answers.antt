@@ -1,5 +1,5 @@
 use Rattle.std.proofs.Common.{Some, ◌∙◌}
-use Rattle.can_mac.specs.declared.event.ErrorKind.TheVariants.{Bit}
+use Rattle.can_terms.specs.declared.event.ErrorKind.TheVariants.{Bit}
 use Rattle.can_mac.specs.Moves.{flag_bit_cause}
 use Rattle.can_gates_mac.proofs.Roles.{flag_bit_cause_is}
 use Rattle.can_gates_mac.proofs.senses.Senses.errs_in_flag.Goals as goal

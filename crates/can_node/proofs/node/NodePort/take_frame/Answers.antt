@@ -3,7 +3,7 @@ use Rattle.std.specs.Option.{option_copied}
 use Rattle.std.specs.Prelude.{if◌then◌else◌}
 use Rattle.can_frame.specs.Arbitration.{Before, arbitration_field}
 use Rattle.can_frame.specs.Parts.{Parts}
-use Rattle.can_mac.specs.declared.event.Event.TheVariants.{Sent, Received}
+use Rattle.can_terms.specs.declared.event.Event.TheVariants.{Sent, Received}
 use Rattle.can_mac.specs.Frames.{GoesBehind}
 use Rattle.can_mac.specs.State.{IsFrameOrNone}
 use Rattle.can_node.specs.Ports.{PortState, port_noting, port_run}

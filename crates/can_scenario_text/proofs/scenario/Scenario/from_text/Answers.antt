@@ -1,5 +1,5 @@
 use Rattle.std.proofs.Common.{◌≡◌, ◌≤◌, ℕ, length, map, subst, sym, ap, ◌∙◌, inr, codes, rules}
-use Rattle.can_hit.specs.Hits.{AreTaken}
+use Rattle.can_terms.specs.Hits.{AreTaken}
 use Rattle.toml.specs.Data.{Data, table}
 use Rattle.toml.specs.View.{view, table_view}
 use Rattle.can_scenario_text.specs.declared.scenario.version.Version.{Version}

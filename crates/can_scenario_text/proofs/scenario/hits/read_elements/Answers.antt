@@ -3,7 +3,7 @@ use Rattle.std.proofs.lemmas.Grind.{common_steps}
 use Rattle.std.proofs.lemmas.List.{at_drop_all}
 use Rattle.toml.specs.Data.{Data}
 use Rattle.toml.specs.View.{view}
-use Rattle.can_hit.specs.declared.hit.Hit.{Hit}
+use Rattle.can_terms.specs.declared.hit.Hit.{Hit}
 use Rattle.can_scenario_text.proofs.HitLemmas.{IsReading, IsReading-more, IsReading-said, IsReading-unmet, next_value}
 use Rattle.can_scenario_text.proofs.scenario.hits.read_elements.Goals as goal
 

@@ -1,7 +1,7 @@
 use Rattle.std.proofs.Common.{◌≡◌, List, codes, inl, inr}
 use Rattle.toml.specs.Data.{table}
 use Rattle.toml.specs.View.{table_view}
-use Rattle.can_conform.specs.declared.script.Start.{Start}
+use Rattle.can_terms.specs.declared.script.Start.{Start}
 use Rattle.kit_documents.specs.declared.field.CaseField.TheVariants as of_case
 use Rattle.document_values.specs.Values.{named, IsRequired}
 use Rattle.kit_documents.specs.declared.cases.words.Choice.{Choice}

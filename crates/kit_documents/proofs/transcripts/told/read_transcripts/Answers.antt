@@ -4,7 +4,7 @@ use Rattle.std.proofs.lemmas.List.Elements.{All-push}
 use Rattle.toml.specs.Data.{Data}
 use Rattle.toml.specs.View.{view}
 use Rattle.toml.specs.declared.value.Value.{Value}
-use Rattle.can_conform.specs.Transcripts.{IsTold}
+use Rattle.can_terms.specs.Cases.{IsTold}
 use Rattle.document_values.specs.Demands.{AllMet, IsFirstUnmet}
 use Rattle.document_values.proofs.ReadLists.{IsRead-more, said-all, unmet-next}
 use Rattle.kit_documents.specs.Transcripts.{transcript_demands, SaysTranscript}

@@ -1,6 +1,6 @@
 use Rattle.std.proofs.Common.{◌≡◌, All, map, take}
 use Rattle.toml.specs.View.{view}
-use Rattle.can_conform.specs.Transcripts.{IsTold}
+use Rattle.can_terms.specs.Cases.{IsTold}
 use Rattle.document_values.proofs.ReadLists.{IsRead}
 use Rattle.kit_documents.specs.Transcripts.{transcript_demands, SaysTranscript}
 use Rattle.kit_documents.proofs.transcripts.told.read_transcripts.Given as goal

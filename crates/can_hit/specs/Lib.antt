@@ -1,3 +1,0 @@
--- To believe: the definitions in which public calls state what they promise
-pub mod Sound
-pub mod Hits

@@ -1,3 +1,0 @@
--- To believe: the definitions in which public calls and laws state what they promise
-pub mod Subcommands
-pub mod Words
