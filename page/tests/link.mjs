@@ -47,6 +47,7 @@ export const linkTests = [
     await other.until(`document.getElementById('bus-text').value === ${JSON.stringify(SCENARIO)}`);
     await settled(other);
     assert.equal(await time(other), 20);
+    await other.until("document.querySelector('#bus-picture .cursor') !== null");
     const width = (one) => one.get("document.querySelector('#bus-picture .cursor').getBoundingClientRect().width.toFixed(1)");
     assert.equal(await width(other), await width(page));
     await other.close();
