@@ -8,10 +8,14 @@ from __future__ import annotations
 
 import hashlib
 import os
+import re
 import shutil
 
 from editing import read_more
 from repository import TOP
+
+# An import. In Rattle it ends with a semicolon.
+IMPORT = re.compile(r"^ *(?:pub(?:\(crate\))? )?(?:ghost )?use [^;{\n]*(?:\{[^}]*\})?;?$", re.M)
 
 
 def put(built: str, to: str, begun: int) -> None:
@@ -22,19 +26,23 @@ def put(built: str, to: str, begun: int) -> None:
 
 
 def sum_of(crate: str) -> str:
-    """A checksum of what a crate's mutants of more-edits/ are tried on, without comments, and of each mutant."""
+    """A checksum of what a crate's mutants of more-edits/ are tried on, and of each mutant.
+
+    Comments, layout and imports don't count: none changes what a mutant says.
+    """
     folder = f"{TOP}/crates/{crate}"
-    texts = {f"more-edits/{name}.edit": edit.encode() for name, edit in read_more(folder).edits.items()}
+    texts = {f"more-edits/{name}.edit": edit for name, edit in read_more(folder).edits.items()}
     for path in _tried(folder):
-        with open(path, "rb") as it:
-            texts[os.path.relpath(path, folder)] = _without_comments(it.read())
-    told = "".join(f"{hashlib.sha256(text).hexdigest()}  {path}\n" for path, text in sorted(texts.items()))
-    return hashlib.sha256(told.encode()).hexdigest()[:16]
+        with open(path, encoding="utf-8") as it:
+            texts[os.path.relpath(path, folder)] = _words(it.read())
+    summed = ((path, hashlib.sha256(text.encode()).hexdigest()) for path, text in sorted(texts.items()))
+    return hashlib.sha256("".join(f"{it}  {path}\n" for path, it in summed).encode()).hexdigest()[:16]
 
 
-def _without_comments(text: bytes) -> bytes:
-    """The lines of a source that are not comments, of Rattle or of its specification language."""
-    return b"".join(it for it in text.splitlines(keepends=True) if not it.lstrip().startswith((b"//", b"--")))
+def _words(source: str) -> str:
+    """The words of a source, of Rattle or of its specification language, without comments, layout and imports."""
+    code = "".join(it for it in source.splitlines(keepends=True) if not it.lstrip().startswith(("//", "--")))
+    return " ".join(IMPORT.sub("", code).split())
 
 
 def _tried(folder: str) -> list[str]:
