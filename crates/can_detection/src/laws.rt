@@ -9,16 +9,19 @@ ghost use Rattle.can_code.specs.declared.fault.CodeFaultKind.TheVariants.{Form};
 ghost use Rattle.can_code.specs.CodeFaults.{IsCodeFault};
 ghost use Rattle.can_detection.specs.WrongBit.{inverted_at, crc_delimiter, EndsLate};
 
-/// The CRC notices each burst of fifteen bits or fewer. If the generator divides two lists that
-/// differ only within these neighbouring bits, the lists are equal.
+/// The CRC detects each burst of at most fifteen bits.
+///
+/// If the generator divides two lists of the same length that differ only within fifteen neighbouring
+/// bits, they are equal.
 pub fn bursts_are_noticed()
     ensures { (a x y b : List Bit) → length x ≡ length y → length x ≤ 15
         → Multiple (a ++ (x ++ b)) → Multiple (a ++ (y ++ b)) → x ≡ y }
 {}
 
-/// An inverted level of the fixed form, after the stuffed part, is a form error at once. The ACK slot
-/// and the last level of the end of frame are the two exceptions: with one of them inverted the
-/// levels encode the same frame, with that level as received.
+/// An inverted level after the stuffed part is a form error at once, with two exceptions.
+///
+/// If the ACK slot or the last level of the end of frame is inverted, the levels encode the same frame,
+/// with this level as received.
 pub fn wrong_fixed_levels_are_noticed()
     ensures fault { (h : HeardParts) (w rest : List Bit) (k : ℕ) → Spells h w → k < 9 → k ≢ 1
         → IsCodeFault (inverted_at (crc_delimiter w + k) w ++ rest) (record { kind = Form; place = crc_delimiter w + k }) }
@@ -28,11 +31,13 @@ pub fn wrong_fixed_levels_are_noticed()
         → Spells (record h { last = opposite h.last }) (inverted_at (crc_delimiter w + 9) w) }
 {}
 
-/// Nobody accepts an acknowledged frame of whose stuffed part one level is inverted: no prefix of
-/// these levels encodes an acknowledged frame. A receiver that finds no fault by the fifth bit of the
-/// end of frame has read a longer frame. Its ACK slot is then one of the recessive levels of the end
-/// of frame, although it would itself drive this slot dominant. There are frames and levels at which
-/// this happens (`exception`).
+/// No receiver accepts an acknowledged frame if one level of its stuffed part is inverted.
+///
+/// - `accepted`: no prefix of the levels encodes an acknowledged frame, or a frame that is not longer.
+/// - `sound`, `place`: a receiver that finds no fault by the fifth bit of the end of frame reads a
+///   longer stuffed part. The ACK slot after it is then a recessive level of the end of frame,
+///   although this receiver would itself drive it dominant.
+/// - `exception`: this happens. There is a frame and a place where a receiver finds no fault at all.
 pub fn one_wrong_level_is_noticed()
     ensures accepted { (h g : HeardParts) (w v : List Bit) (p : ℕ) (rest more : List Bit)
         → Spells h w → h.acked ≡ true → 0 < p → p < crc_delimiter w
