@@ -140,8 +140,6 @@ class Searches(Reported):
         return self.suite(self.run_hold("--find", "--circuit", test_find.CIRCUIT, *files, design), status)
 
     def test_searches(self) -> None:
-        suite = self.find("level", 0)
-        self.assertEqual(self.kinds(suite), {"same_drive": "pass", "equal in every run": "pass"})
         suite = self.find("level ^ (age == 20'hfffff)", 4)
         self.assertEqual(self.kinds(suite), {"same_drive": "skip", "equal in every run": "skip"})
         self.assertEqual(suite.tests[1].message, "not proved, and no difference was found either")

@@ -48,8 +48,15 @@ class PlainCoverage(ctypes.Structure):
     _fields_ = (("counts", ctypes.c_uint64 * ITEMS),)
 
 
-if not hasattr(lib, "riddlesage_coverage_sample"):
-    raise ImportError("libriddlesage.so is older than this package: it has no rule coverage")
+try:
+    if not hasattr(lib, "riddlesage_coverage_sample"):
+        raise ImportError("libriddlesage.so is older than this package: it has no rule coverage")
+except ImportError as missing:
+    # What follows asks the library. The command reports in one line that it is missing, as the others do.
+    if __name__ == "__main__":
+        print(missing, file=sys.stderr)
+        sys.exit(2)
+    raise
 
 lib.riddlesage_coverage_sample.argtypes = (
     ctypes.POINTER(PlainPort),
