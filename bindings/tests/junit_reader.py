@@ -48,7 +48,7 @@ class Suite(NamedTuple):
 def read_junit(path: str | pathlib.Path) -> Suite:
     """The only suite of a report, whose counts are those of its tests. Raises SkipTest without junitparser."""
     if not MODULE.exists():
-        raise unittest.SkipTest("junitparser is not installed, which reads reports (apt-get install python3-junitparser)")
+        raise unittest.SkipTest("junitparser is not installed, which reads reports (python3-junitparser)")
     ran = subprocess.run([PYTHON, __file__, str(path)], check=True, capture_output=True, text=True)
     (read,) = json.loads(ran.stdout)
     suite = Suite(read["name"], read["properties"], [Test(*row) for row in read["tests"]])

@@ -191,7 +191,8 @@ def _passed_on(given: BinaryIO, out: BinaryIO) -> Iterator[str]:
         out.write(line)
         out.flush()
         if not line.endswith(b"\n"):
-            raise NotReadError(f"line {number}: it has no end" if len(line) < _MOST_BYTES else f"line {number}: too long")
+            why = "it has no end" if len(line) < _MOST_BYTES else "too long"
+            raise NotReadError(f"line {number}: {why}")
         yield line[:-1].decode("ascii", "replace")
 
 
