@@ -27,7 +27,7 @@ import sys
 from collections.abc import Iterable, Iterator, Sequence
 from typing import TYPE_CHECKING
 
-from riddlesage._commands import end_with, opened
+from riddlesage._commands import end_with, opened, require_library
 from riddlesage._frames import Refused, Status, demand, frame_of
 from riddlesage._kit import KitNotFoundError, kit, played
 from riddlesage._library import PlainFrame, PlainPort, lib
@@ -35,6 +35,9 @@ from riddlesage._ports import Event, Port, Reported
 
 if TYPE_CHECKING:
     from kit.documents import Case
+
+if __name__ == "__main__":
+    require_library()  # which is asked for names as soon as this module is loaded
 
 ITEMS = 64
 # A case has at most so many frames.
@@ -48,15 +51,8 @@ class PlainCoverage(ctypes.Structure):
     _fields_ = (("counts", ctypes.c_uint64 * ITEMS),)
 
 
-try:
-    if not hasattr(lib, "riddlesage_coverage_sample"):
-        raise ImportError("libriddlesage.so is older than this package: it has no rule coverage")
-except ImportError as missing:
-    # What follows asks the library. The command reports in one line that it is missing, as the others do.
-    if __name__ == "__main__":
-        print(missing, file=sys.stderr)
-        sys.exit(2)
-    raise
+if not hasattr(lib, "riddlesage_coverage_sample"):
+    raise ImportError("libriddlesage.so is older than this package: it has no rule coverage")
 
 lib.riddlesage_coverage_sample.argtypes = (
     ctypes.POINTER(PlainPort),
