@@ -52,7 +52,7 @@ def package() -> Iterator[tuple[str, bytes]]:
 
 def kit() -> Iterator[tuple[str, bytes]]:
     """The files of the conformance kit, with their contents."""
-    for folder, pattern in (("kit", "*.py"), ("cases", "*.toml"), ("transcripts", "*.toml")):
+    for folder, pattern in (("kit", "*.py"), ("kit", "*.txt"), ("cases", "*.toml"), ("transcripts", "*.toml")):
         for path in sorted((TOP / "conformance" / folder).glob(pattern)):
             yield f"conformance/{folder}/{path.name}", path.read_bytes()
 

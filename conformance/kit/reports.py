@@ -1,13 +1,13 @@
-"""The output of a run: verdicts, a summary by family, and a report in JUnit's XML."""
+"""The output of a run: verdicts, a summary by family, and their results for a CI system."""
 
 from __future__ import annotations
 
-import xml.etree.ElementTree as ET
 from dataclasses import dataclass
 from typing import Iterable
 
 from .choices import words_of
 from .documents import Case, Transcript
+from .junit import ERROR, FAIL, PASS, SKIP, Result
 from .playing import seen_levels
 
 KINDS = ("pass", "fail", "void", "skip")
@@ -97,34 +97,14 @@ def exit_status(verdicts: Iterable[Verdict], only_plays: bool = False) -> int:
     return 0 if "pass" in kinds or only_plays and "played" in kinds else NOTHING_COMPARED
 
 
-def _shown(text: str) -> str:
-    """The text without what XML cannot hold: an adapter's reason may have control characters."""
-    return "".join(letter if letter.isprintable() else "?" for letter in text)
+# The result of a verdict in a CI system. A case that was only played has passed.
+_RESULTS = {"pass": PASS, "fail": FAIL, "void": ERROR, "skip": SKIP, "played": PASS}
 
 
-def write_junit(path: str, name: str, verdicts: list[Verdict]) -> None:
-    """Writes the report. Each family is a class, each case a test."""
-    kinds = [verdict.kind for verdict in verdicts]
-    suite = ET.Element(
-        "testsuite",
-        name=_shown(name),
-        tests=str(len(kinds)),
-        failures=str(kinds.count("fail")),
-        errors=str(kinds.count("void")),
-        skipped=str(kinds.count("skip")),
-        time=f"{sum(verdict.seconds for verdict in verdicts):.3f}",
-    )
+def results(verdicts: Iterable[Verdict]) -> list[Result]:
+    """The results for a CI system: each family is a class, each case a test."""
+    made = []
     for verdict in verdicts:
-        test = ET.SubElement(
-            suite,
-            "testcase",
-            classname=verdict.case.family,
-            name=verdict.case.name,
-            time=f"{verdict.seconds:.3f}",
-        )
-        element = {"fail": "failure", "void": "error", "skip": "skipped"}.get(verdict.kind)
-        if element is not None:
-            ET.SubElement(test, element, message=_shown(verdict.line())).text = verdict.case.purpose
-    root = ET.Element("testsuites")
-    root.append(suite)
-    ET.ElementTree(root).write(path, encoding="utf-8", xml_declaration=True)
+        case, kind = verdict.case, _RESULTS[verdict.kind]
+        made.append(Result(case.family, case.name, kind, verdict.line(), case.purpose, seconds=verdict.seconds))
+    return made

@@ -3,6 +3,7 @@
 from __future__ import annotations
 
 import os
+import re
 import subprocess
 import sys
 import tempfile
@@ -11,6 +12,9 @@ import xml.etree.ElementTree as ET
 
 TOP = os.path.dirname(os.path.dirname(os.path.realpath(__file__)))
 TRANSCRIPTS = os.path.join(TOP, "transcripts")
+sys.path.insert(0, os.path.join(os.path.dirname(TOP), "bindings", "tests"))
+
+from junit_reader import read_junit
 
 # Drives nothing, and ends its lines with two bytes.
 SILENT = """
@@ -96,6 +100,17 @@ class Runs(unittest.TestCase):
         suite = ET.parse(self.path("report.xml")).getroot()[0]
         self.assertEqual([suite.get(name) for name in ("tests", "failures", "errors", "skipped")], ["1", "0", "1", "0"])
         self.assertEqual(suite[0][0].get("message"), "void rx-dlc-data-0: error ? <why>")
+
+    def test_a_report_is_read_back(self) -> None:
+        """junitparser has the counts and names of the run."""
+        silent = [sys.executable, "-c", SILENT]
+        run = self.run_kit(["--only", "rx-ack", "--without", "forced", "--junit", self.path("report.xml")], silent)
+        suite = read_junit(self.path("report.xml"))
+        lines = run.stdout.splitlines()[:5]
+        self.assertEqual([test.message for test in suite.tests], lines)
+        verdicts = re.findall("(?m)^(?:fail|skip) [a-z-]+", run.stdout)
+        self.assertEqual([f"{test.kind} {test.name}" for test in suite.tests], verdicts)
+        self.assertEqual((suite.count("skip"), suite.count("fail"), suite.tests[4].group), (2, 3, "rx-ack"))
 
 
 if __name__ == "__main__":

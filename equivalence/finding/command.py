@@ -18,6 +18,7 @@ from holding.asking import Asking
 from holding.circuit import Circuit
 from holding.faults import FAILED, NOT_PROVED, Fault
 from holding.netlist import Netlist
+from holding.outcome import Outcome
 from holding.relation import Relation, read_relation
 from holding.reporting import hold, show, state
 from playing.building import LEARNER, built
@@ -144,7 +145,7 @@ class Finding:
     relation: Relation
     circuit: Circuit
     read: Callable[[Relation], Netlist]
-    play: Callable[[Netlist], int]
+    play: Callable[[Netlist], Outcome]
     asking: Callable[[Relation], Asking]
     room: pathlib.Path
     seed: int
@@ -152,8 +153,8 @@ class Finding:
     output: str | None
     vcd: str | None
 
-    def run(self) -> int:
-        """Finds a mapping, and returns the status."""
+    def run(self) -> Outcome:
+        """Finds a mapping, and proves it."""
         begun = time.monotonic()
         progress = Progress(begun)
         netlist = self.read(with_words(self.relation, self.circuit))
@@ -192,7 +193,7 @@ class Finding:
             pathlib.Path(self.output).write_text(text, encoding="utf-8")
             show([f"register mapping: {self.output}"])
 
-    def give_up(self, model: Learning, found: Found) -> int:
+    def give_up(self, model: Learning, found: Found) -> Outcome:
         """Reports where the proof failed, and writes what is left."""
         showing = Showing(model, Writing(model, found.limits), found.guesses)
         chain = found.chain[::-1] or [(at, -1, -1) for at in range(len(found.refuting))]
@@ -206,4 +207,4 @@ class Finding:
         self.write(Writing(model, found.limits).text(self.relation, mapping))
         lost = [name for name, is_proved in zip(showing.outputs(), found.outputs) if not is_proved]
         show([f"not proved: {', '.join(lost) or 'time is up'}; no difference was found either"])
-        return NOT_PROVED
+        return Outcome(NOT_PROVED, "not proved, and no difference was found either")

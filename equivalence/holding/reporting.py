@@ -6,6 +6,7 @@ import pathlib
 
 from holding.asking import FIRST, GIVEN, HOLDS, Asking, Counterexample, Result
 from holding.faults import DIFFERS, NOTHING_HELD, Fault
+from holding.outcome import Outcome
 from holding.waves import Column, waves
 
 # a phase by its number: its word, the register that counts in it, its rule in docs/ACCESS.md
@@ -180,8 +181,8 @@ def show_assumptions(asking: Asking) -> list[str]:
     return given
 
 
-def hold(asking: Asking, vcd: str | None) -> int:
-    """Runs the queries reset, outputs and step, and returns the status."""
+def hold(asking: Asking, vcd: str | None) -> Outcome:
+    """Runs the queries reset, outputs and step."""
     check_related(asking)
     results = []
     for query in (asking.reset, asking.outputs, asking.step):
@@ -192,17 +193,26 @@ def hold(asking: Asking, vcd: str | None) -> int:
         write_waves(found[0], vcd)
         if found[0].query != "reset":
             show([CHOICES])
-        show([f"not proved: {MEANINGS[found[0].query]}"])
-        return DIFFERS
+        said = f"not proved: {MEANINGS[found[0].query]}"
+        show([said])
+        return refuted(said, results)
     given = show_assumptions(asking)
     if missing := asking.netlist.left_out(OUTPUTS):
         show([f"not compared: {' '.join(missing)}"])
-    show([f"{EQUAL} that meets {', '.join(given)}" if given else EQUAL])
-    return 0
+    said = f"{EQUAL} that meets {', '.join(given)}" if given else EQUAL
+    show([said])
+    return Outcome(0, said)
 
 
-def smoke(asking: Asking, count: int, vcd: str | None) -> int:
-    """Checks the first bit times after a reset, and returns the status."""
+def refuted(said: str, results: list[Result]) -> Outcome:
+    """The outcome of queries of which some have a counterexample."""
+    found = [result.found for result in results if result.found]
+    lines = [line for result in results if result.found for line in lines_of(result, "proved")]
+    return Outcome(DIFFERS, said, [name for it in found for name in it.fails], lines)
+
+
+def smoke(asking: Asking, count: int, vcd: str | None) -> Outcome:
+    """Checks the first bit times after a reset."""
     for query in asking.first(count, mutated=True):
         result = asking.ask(query)
         if result.found:
@@ -218,7 +228,8 @@ def smoke(asking: Asking, count: int, vcd: str | None) -> int:
         if result.found:
             write_waves(result.found, vcd)
             show([CHOICES])
-            return DIFFERS
+            return refuted(f"different in {result.query}", [result])
     show_assumptions(asking)
-    show([f"no difference in the first {count} bit times"])
-    return 0
+    said = f"no difference in the first {count} bit times"
+    show([said])
+    return Outcome(0, said)

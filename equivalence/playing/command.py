@@ -9,6 +9,7 @@ from dataclasses import dataclass
 from holding.asking import GIVEN
 from holding.faults import DIFFERS, FAILED, NOTHING_HELD, Fault
 from holding.netlist import Netlist
+from holding.outcome import Outcome
 from holding.reporting import CHOICES, OUTPUTS, show, write_waves
 from playing.building import simulator
 from playing.keeping import keep
@@ -61,22 +62,24 @@ def assumptions(netlist: Netlist) -> list[str]:
     return [name for name in netlist.parts if name.startswith(GIVEN)]
 
 
-def show_difference(model: Model, played: Played, wanted: Wanted) -> int:
+def show_difference(model: Model, played: Played, wanted: Wanted) -> Outcome:
     """Shows the run that was found, and writes it."""
     assert played.run is not None
     shown = Shown(model, played.run)
     if not shown.fails:
         raise Fault("the simulator contradicts itself: the run that it shortened has no difference", FAILED)
-    show(run_lines(shown))
+    lines = run_lines(shown)
+    show(lines)
     write_waves(shown, wanted.vcd, shown.columns())
     if wanted.keep:
         show([keep(shown, wanted.keep, wanted.seed)])
-    show([CHOICES, f"different: {', '.join(shown.fails)}"])
-    return DIFFERS
+    said = f"different: {', '.join(shown.fails)}"
+    show([CHOICES, said])
+    return Outcome(DIFFERS, said, shown.fails, lines)
 
 
-def play(netlist: Netlist, room: pathlib.Path, wanted: Wanted) -> int:
-    """Plays, and returns the status. Where nothing differs, a mutation shows that something would be found."""
+def play(netlist: Netlist, room: pathlib.Path, wanted: Wanted) -> Outcome:
+    """Plays. Where nothing differs, a mutation shows that something would be found."""
     model = Model(netlist)
     counts = Counts(model)
     program, line = simulator(room)
@@ -99,5 +102,6 @@ def play(netlist: Netlist, room: pathlib.Path, wanted: Wanted) -> int:
         show([f"assumed: {', '.join(given)}"])
     if missing := netlist.left_out(OUTPUTS):
         show([f"not compared: {' '.join(missing)}"])
-    show([f"no difference in {number(played.bit_times)} bit times"])
-    return 0
+    said = f"no difference in {number(played.bit_times)} bit times"
+    show([said])
+    return Outcome(0, said)

@@ -3,8 +3,8 @@ import { numberIn, packed, unpacked } from './address.js';
 import { ANSWER } from './core.js';
 import { EndView } from './bus_end.js';
 import { BusPicture } from './bus_picture.js';
-import { BROUGHT, BusTimes, DOES, PortTimes } from './bus_times.js';
-import { BROUGHT_WORDS, DOES_WORDS, STAGES } from './bus_words.js';
+import { EVENT, BusTimes, DOES, PortTimes } from './bus_times.js';
+import { EVENT_WORDS, DOES_WORDS, PHASE_WORDS } from './bus_words.js';
 import { DocumentView } from './document_view.js';
 import { buttonById, byId, copyText, download, html } from './draw.js';
 import { Report } from './report.js';
@@ -204,7 +204,7 @@ export class BusView extends DocumentView {
   goToLatest(worst, report, times) {
     const { first } = report.end(worst.port);
     const isOwn = (/** @type {number} */ time, /** @type {number} */ entry) => {
-      return times.brought(time) === BROUGHT.sent && report.line(first + entry).startsWith(`sent ${worst.name} `);
+      return times.event(time) === EVENT.sent && report.line(first + entry).startsWith(`sent ${worst.name} `);
     };
     const latest = latestOf(worst, Array.from(times.heard.filter(isOwn), (time) => time + 1));
     byId('bus-worst').textContent = worstCaseWords(worst, latest);
@@ -326,7 +326,7 @@ function portRow(port, node, time, bus) {
   const does = DOES[port.kinds[port.runAt(time)]];
   const blind = bus.isBlind(port, time) ? ' (disturbed)' : '';
   const cells = [
-    port.isStart(time) ? 'start of frame' : STAGES[port.stage(time)], port.isSender(time) ? 'sender' : 'receiver',
+    port.isStart(time) ? 'start of frame' : PHASE_WORDS[port.phase(time)], port.isSender(time) ? 'sender' : 'receiver',
     LEVEL_WORDS[port.drove(time)], LEVEL_WORDS[port.saw(time)] + blind,
     String(port.transmit(time)), String(port.receive(time)), comesTo(port, time),
   ];
@@ -342,6 +342,6 @@ function portRow(port, node, time, bus) {
  * @param {number} time
  */
 function comesTo(port, time) {
-  const brought = BROUGHT_WORDS[port.brought(time)];
-  return port.isStart(time) && port.isSender(time) ? ['begins its frame', brought].filter(Boolean).join(', ') : brought;
+  const event = EVENT_WORDS[port.event(time)];
+  return port.isStart(time) && port.isSender(time) ? ['begins its frame', event].filter(Boolean).join(', ') : event;
 }

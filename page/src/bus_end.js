@@ -1,12 +1,12 @@
 /** The ports after the run, one below another and folded, with their logs. */
-import { BROUGHT } from './bus_times.js';
+import { EVENT } from './bus_times.js';
 import { byId, closestTo, html } from './draw.js';
 import { counted } from './words.js';
 
 /** The number of entries of a log that are shown at first; each time ten times this number is added. */
 const SHOWN = 50;
 
-const KIND = Object.freeze({ sent: BROUGHT.sent, took: BROUGHT.received });
+const KIND = Object.freeze({ sent: EVENT.sent, took: EVENT.received });
 const WORDS = Object.freeze({ sent: 'sent', took: 'received' });
 
 /** @typedef {import('./bus_times.js').BusTimes} BusTimes */
@@ -95,7 +95,7 @@ export class EndView {
     const frame = line.slice(5);
     const port = this.bus?.ports[node];
     const time = port?.heard[entry];
-    const where = port && time !== undefined && port.brought(time) === KIND[kind] ? [timeOf(time, node), ' '] : [];
+    const where = port && time !== undefined && port.event(time) === KIND[kind] ? [timeOf(time, node), ' '] : [];
     return html('li', {}, [...where, `${WORDS[kind]} `, html('code', {}, [frame])]);
   }
 }

@@ -24,7 +24,7 @@ const KINDS = Uint8Array.from(
 );
 
 /** The numbers of the events of a bit time. */
-export const BROUGHT = Object.freeze({
+export const EVENT = Object.freeze({
   sent: 1, received: 2, lost: 3, firstError: 4, lastError: 8, overload: 9, off: 10, recovered: 11,
 });
 
@@ -63,7 +63,7 @@ export function indexOf(times, levels) {
       last = kind;
     }
     if (time > 0 && (port.transmit(time) !== port.transmit(time - 1) || port.receive(time) !== port.receive(time - 1))) moves.push(time);
-    if (port.brought(time) !== 0) marks.push(time);
+    if (port.event(time) !== 0) marks.push(time);
     if (port.saw(time) !== levels[time]) blind.push(time);
   }
   return {
@@ -86,10 +86,10 @@ export class PortTimes {
     this.moves = index.moves;
     this.marks = index.marks;
     this.blind = index.blind;
-    this.losses = this.marked(BROUGHT.lost, BROUGHT.lost);
-    this.errors = this.marked(BROUGHT.firstError, BROUGHT.lastError);
+    this.losses = this.marked(EVENT.lost, EVENT.lost);
+    this.errors = this.marked(EVENT.firstError, EVENT.lastError);
     /** The bit times at the ends of frames that it sent or received: those of the entries of its log, in their order. */
-    this.heard = this.marked(BROUGHT.sent, BROUGHT.received);
+    this.heard = this.marked(EVENT.sent, EVENT.received);
     /** @type {Map<number, ReceivedFrame>} what is known of its frames that were drawn, by their starts */
     this.frames = new Map();
   }
@@ -99,7 +99,7 @@ export class PortTimes {
    * @param {number} first
    * @param {number} last
    */
-  marked(first, last) { return this.marks.filter((time) => this.brought(time) >= first && this.brought(time) <= last); }
+  marked(first, last) { return this.marks.filter((time) => this.event(time) >= first && this.event(time) <= last); }
 
   /** @param {number} time */
   transmit(time) { return this.bytes[time * TIME_BYTES] + 256 * this.bytes[time * TIME_BYTES + 1]; }
@@ -108,7 +108,7 @@ export class PortTimes {
   receive(time) { return this.bytes[time * TIME_BYTES + 2] + 256 * this.bytes[time * TIME_BYTES + 3]; }
 
   /** @param {number} time */
-  stage(time) { return this.bytes[time * TIME_BYTES + 4]; }
+  phase(time) { return this.bytes[time * TIME_BYTES + 4]; }
 
   /** @param {number} time */
   sends(time) { return this.bytes[time * TIME_BYTES + 5] === 1; }
@@ -120,7 +120,7 @@ export class PortTimes {
   saw(time) { return this.bytes[time * TIME_BYTES + 7]; }
 
   /** @param {number} time */
-  brought(time) { return this.bytes[time * TIME_BYTES + 8]; }
+  event(time) { return this.bytes[time * TIME_BYTES + 8]; }
 
   /** @param {number} time @returns {number} the stretch in which it does one thing */
   runAt(time) { return firstFrom(this.starts, time + 1) - 1; }
@@ -129,7 +129,7 @@ export class PortTimes {
    * Whether it is in a frame, after its start.
    * @param {number} time
    */
-  isInFrame(time) { return time < this.count && this.stage(time) >= FIRST_IN_FRAME && this.stage(time) <= LAST_IN_FRAME; }
+  isInFrame(time) { return time < this.count && this.phase(time) >= FIRST_IN_FRAME && this.phase(time) <= LAST_IN_FRAME; }
 
   /**
    * Whether a frame begins here: its phase is the one before, and the next one is in the frame.
@@ -146,7 +146,7 @@ export class PortTimes {
   /** @param {number} time @returns {number} the place in DOES of what it does */
   kind(time) {
     if (this.isInFrame(time) || this.isStart(time)) return this.isSender(time) ? SENDING : RECEIVING;
-    return KINDS[this.stage(time)];
+    return KINDS[this.phase(time)];
   }
 
   /**

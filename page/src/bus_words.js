@@ -16,14 +16,14 @@ export const DOES_WORDS = Object.freeze({
 });
 
 /** By the numbers of phases. */
-export const STAGES = Object.freeze([
+export const PHASE_WORDS = Object.freeze([
   'idle', 'joining', 'stuffed part of a frame', 'CRC delimiter', 'ACK slot', 'ACK delimiter', 'end of frame',
   'active error flag', 'passive error flag', 'overload flag', 'after a flag', 'delimiter', 'intermission',
   'suspend transmission', 'bus off',
 ]);
 
 /** By the numbers of the events of a bit time. */
-export const BROUGHT_WORDS = Object.freeze([
+export const EVENT_WORDS = Object.freeze([
   '', 'frame sent', 'frame received', 'arbitration lost', 'bit error', 'stuff error', 'CRC error', 'form error', 'ACK error',
   'overload flag begins', 'goes bus off', 'back from bus off',
 ]);

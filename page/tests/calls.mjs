@@ -78,7 +78,7 @@ const LINES = { name: 'lines', size: 9 + 33554432 };
 const WRONG = { name: 'wrong', size: 24 };
 
 /** What a port does in a bit time, in ten bytes. */
-const time = (at, field) => `times ${10 * at + { transmit: 0, receive: 2, stage: 4, sends: 5, drove: 6, saw: 7, brought: 8 }[field]}`;
+const time = (at, field) => `times ${10 * at + { transmit: 0, receive: 2, phase: 4, sends: 5, drove: 6, saw: 7, event: 8 }[field]}`;
 
 const encode = (letters, most) => ['page_encode', [text(letters), room('levels', most), number('count'), number('place')]];
 const frameText = (identifier, extended, remote, dlc, data, most = 32) =>
@@ -156,19 +156,19 @@ const ROWS = [
   ].map(([document, field, place, element]) => [...run(document), 6, { 'wrong 16': field, 'wrong 0': place, 'wrong 8': element }]),
 
   [...portTimes(SCENARIO, 0, 60), 0, {
-    count: 60, [time(0, 'stage')]: 0, [time(0, 'sends')]: 0, [time(0, 'drove')]: 0, [time(0, 'saw')]: 0, [time(1, 'stage')]: 2, [time(1, 'sends')]: 1,
+    count: 60, [time(0, 'phase')]: 0, [time(0, 'sends')]: 0, [time(0, 'drove')]: 0, [time(0, 'saw')]: 0, [time(1, 'phase')]: 2, [time(1, 'sends')]: 1,
     // the ACK slot is left recessive, and seen dominant
-    [time(41, 'stage')]: 4, [time(41, 'drove')]: 1, [time(41, 'saw')]: 0,
-    [time(49, 'stage')]: 6, [time(49, 'brought')]: 1, [time(50, 'stage')]: 12, [time(49, 'transmit')]: 0, [time(49, 'receive')]: 0,
+    [time(41, 'phase')]: 4, [time(41, 'drove')]: 1, [time(41, 'saw')]: 0,
+    [time(49, 'phase')]: 6, [time(49, 'event')]: 1, [time(50, 'phase')]: 12, [time(49, 'transmit')]: 0, [time(49, 'receive')]: 0,
   }],
   [...portTimes(SCENARIO, 2, 60), 7, { count: 99 }],
   [...portTimes(SCENARIO, 0, 59), 1, { count: 99 }],
   [...portTimes('bits = 1', 0, 60), 6, { count: 99 }],
 
   [...allPortTimes(SCENARIO, 120), 0, {
-    count: 120, [time(1, 'sends')]: 1, [time(41, 'drove')]: 1, [time(49, 'brought')]: 1,
+    count: 120, [time(1, 'sends')]: 1, [time(41, 'drove')]: 1, [time(49, 'event')]: 1,
     // the other port: it acknowledges, and has the frame a level sooner
-    [time(60, 'stage')]: 0, [time(60 + 1, 'sends')]: 0, [time(60 + 41, 'drove')]: 0, [time(60 + 48, 'brought')]: 2, [time(60 + 49, 'brought')]: 0,
+    [time(60, 'phase')]: 0, [time(60 + 1, 'sends')]: 0, [time(60 + 41, 'drove')]: 0, [time(60 + 48, 'event')]: 2, [time(60 + 49, 'event')]: 0,
   }],
   [...allPortTimes(SCENARIO, 119), 1, { count: 99 }],
   [...allPortTimes('bits = 1', 120), 6, { count: 99 }],

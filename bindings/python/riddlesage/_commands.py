@@ -10,7 +10,7 @@ import sys
 from collections.abc import Callable, Iterable, Iterator
 from typing import Any, BinaryIO, NoReturn
 
-from riddlesage._library import MissingLibrary
+from riddlesage._library import MissingLibrary, version
 
 # The most refused lines of a file that are reported one by one.
 _MOST_REPORTED = 20
@@ -75,6 +75,15 @@ def lines_of(file: str) -> Iterator[tuple[int, str]]:
     """The lines of a file, as `lines_in` has them."""
     with opened(file) as given:
         yield from lines_in(given)
+
+
+def require_library() -> None:
+    """Exits with status 2, as `end_with` does, if the library is missing."""
+    try:
+        version()
+    except MissingLibrary as missing:
+        print(missing, file=sys.stderr)
+        sys.exit(2)
 
 
 def end_with(main: Callable[[], int]) -> NoReturn:

@@ -24,11 +24,10 @@ import ctypes
 import pathlib
 import re
 import sys
-import xml.etree.ElementTree as ElementTree
 from collections.abc import Iterable, Iterator, Sequence
 from typing import TYPE_CHECKING
 
-from riddlesage._commands import end_with, opened
+from riddlesage._commands import end_with, opened, require_library
 from riddlesage._frames import Refused, Status, demand, frame_of
 from riddlesage._kit import KitNotFoundError, kit, played
 from riddlesage._library import PlainFrame, PlainPort, lib
@@ -36,6 +35,9 @@ from riddlesage._ports import Event, Port, Reported
 
 if TYPE_CHECKING:
     from kit.documents import Case
+
+if __name__ == "__main__":
+    require_library()  # which is asked for names as soon as this module is loaded
 
 ITEMS = 64
 # A case has at most so many frames.
@@ -123,16 +125,18 @@ class Coverage:
         yield f"reached {len(self.reached)} of {ITEMS}"
 
     def junit(self) -> str:
-        """The report as JUnit XML: a test for each combination, which is skipped if it has not occurred."""
-        counts = {"tests": str(ITEMS), "failures": "0", "errors": "0", "skipped": str(len(self.missing))}
-        suite = ElementTree.Element("testsuite", {"name": "rule coverage", **counts})
+        """The report as JUnit XML: a test for each combination, which is skipped if it has not occurred.
+
+        The conformance kit writes it. Without the kit this raises KitNotFoundError.
+        """
+        writer = kit("junit")
+        results = []
         for name, count in self.counts.items():
             rule, _, column = name.partition(", ")
-            case = ElementTree.SubElement(suite, "testcase", classname=rule, name=column or rule, time="0")
-            if not count:
-                ElementTree.SubElement(case, "skipped", message=f"not reached; {_reaching(name)}")
-        ElementTree.indent(suite)
-        return ElementTree.tostring(suite, encoding="unicode", xml_declaration=True) + "\n"
+            kind, message = (writer.PASS, "") if count else (writer.SKIP, f"not reached; {_reaching(name)}")
+            results.append(writer.Result(rule, column or rule, kind, message))
+        text: str = writer.junit_text("rule coverage", results)
+        return text
 
 
 def _reaching(name: str) -> str:
@@ -214,8 +218,12 @@ def main(words: Sequence[str] | None = None) -> int:
         print(refused, file=sys.stderr)
         return 2
     print("\n".join(coverage.lines()))
-    if options.junit:
-        options.junit.write_text(coverage.junit(), "utf-8")
+    try:
+        if options.junit:
+            options.junit.write_text(coverage.junit(), "utf-8")
+    except KitNotFoundError as missing:
+        print(missing, file=sys.stderr)
+        return 2
     return status
 
 

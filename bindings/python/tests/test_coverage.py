@@ -87,7 +87,7 @@ def test_reports() -> None:
     coverage.add("Suspend transmission, transmitter passive", 2**40)
     assert read_lines((f"TOP.monitor: {line}\n" for line in coverage.lines()), again) == ITEMS
     assert again.counts == coverage.counts
-    suite = ElementTree.fromstring(coverage.junit())
+    suite = ElementTree.fromstring(coverage.junit())[0]
     cases = suite.findall("testcase")
     assert len(cases) == int(suite.attrib["tests"]) == ITEMS
     assert sum(case.find("skipped") is None for case in cases) == 2
