@@ -20,6 +20,7 @@ sys.path.insert(0, str(FOLDER))
 
 from finding import progress
 from finding.conditions import Atom, named_atoms
+from finding.progress import Counts
 from finding.wiring import instance, ports, with_lines
 from finding.writing import without_part
 from holding.faults import Fault
@@ -158,15 +159,18 @@ class Searches(Files):
 class Waiting(unittest.TestCase):
     def test_lines_are_some_seconds_apart(self) -> None:
         shown = io.StringIO()
-        with mock.patch.object(progress.time, "monotonic", side_effect=[104.0, 111.0, 112.0, 130.0]):
+        with mock.patch.object(progress.time, "monotonic", side_effect=[104.0, 111.0, 112.0, 130.0, 141.0]):
             with contextlib.redirect_stderr(shown):
                 made = progress.Progress(100.0)
                 made.show("playing")
-                made.show("proving", 1200, 34)
-                made.show("proving", 1300, 34)
-                made.show("guessing")
-        lines = ["hold: 11 s: proving the outputs, 1,200 questions answered, 34 guesses left"]
-        lines.append("hold: 30 s: looking for what is equal in all states that were played")
+                made.show("proving", Counts(0, 1200, 34, 5, 17))
+                made.show("proving", Counts(0, 1300, 36, 5, 17))
+                made.show("proving", Counts(0, 1400, 37, 9, 17))
+                made.show("guessing", Counts(2))
+        proving = "proving the outputs, {} questions answered, {} of 17 groups of guesses proved, "
+        proving += "{} guesses refuted since the last line"
+        lines = [f"hold: 11 s: {proving.format('1,200', 5, 34)}", f"hold: 30 s: {proving.format('1,400', 9, 3)}"]
+        lines.append("hold: 41 s: looking for what is equal in all states that were played, round 2")
         self.assertEqual(shown.getvalue().splitlines(), lines)
 
 
