@@ -104,6 +104,10 @@ class Found:
         gone = {number - len(self.outputs) for state in self.refuting for number in state.gone}
         return [self.guesses[number] for number in sorted(gone) if 0 <= number < self.kept]
 
+    def with_result(self, result: int, outputs: list[str]) -> list[str]:
+        """The compared outputs with this result."""
+        return [name for name, it in zip(outputs, self.outputs) if it == result]
+
     @property
     def is_proved(self) -> bool:
         """Whether all outputs are proved equal."""
@@ -212,23 +216,24 @@ class Finding:
             show(list(showing.lines(found.refuting[at])))
             if there >= 0:
                 show([f"  played: {number(there)} states of this phase, {number(same)} with these registers"])
-        outputs: dict[int, list[str]] = {REFUTED: [], PROVED: [], UNDECIDED: []}
-        for name, result in zip(showing.outputs(), found.outputs):
-            outputs[result].append(name)
-        held = [name for name in outputs[PROVED] if name in model.held_parts()]
+        held = [name for name in found.with_result(PROVED, showing.outputs()) if name in model.held_parts()]
         mapping = Mapping(found.left, held, LEFT, found.lost())
         self.write(Writing(model, found.limits).text(self.relation, mapping))
-        if outputs[PROVED]:
-            show([f"proved: {', '.join(outputs[PROVED])}"])
-        if outputs[UNDECIDED]:
-            show([f"undecided: {', '.join(outputs[UNDECIDED])}", f"  {self.ended(found)}"])
-        show([f"not proved: {', '.join(outputs[REFUTED] or outputs[UNDECIDED])}; no difference was found either"])
+        show(list(result_lines(showing.outputs(), found, self.limits)))
         return NOT_PROVED
 
-    def ended(self, found: Found) -> str:
-        """Why outputs are undecided."""
+
+def result_lines(outputs: list[str], found: Found, limits: Limits) -> Iterator[str]:
+    """What became of the compared outputs in a search that did not prove them all."""
+    refuted, proved, undecided = (found.with_result(it, outputs) for it in (REFUTED, PROVED, UNDECIDED))
+    if proved:
+        yield f"proved: {', '.join(proved)}"
+    if undecided:
+        yield f"undecided: {', '.join(undecided)}"
         if found.is_done:
-            return "the search ended with the first output that was given up; with -o FILE it goes on"
-        if found.steps > self.limits.steps:
-            return f"the limit of {number(self.limits.steps)} steps was reached (--steps)"
-        return f"the limit of {number(self.limits.seconds)} seconds was reached (--seconds)"
+            yield "  the search ended with the first output that was given up; with -o FILE it goes on"
+        elif found.steps > limits.steps:
+            yield f"  the limit of {number(limits.steps)} steps was reached (--steps)"
+        else:
+            yield f"  the limit of {number(limits.seconds)} seconds was reached (--seconds)"
+    yield f"not proved: {', '.join(refuted or undecided)}; no difference was found either"

@@ -51,5 +51,5 @@ class Progress:
         said += [f"round {counts.round}"] if counts.round else []
         said += [f"{number(counts.questions)} questions answered"] if counts.questions else []
         said += [f"{number(counts.proved)} of {number(counts.needed)} groups of guesses proved"] * bool(counts.needed)
-        said += [f"{number(counts.refuted - before)} guesses refuted since the last line"] * bool(counts.refuted)
+        said += [f"guesses refuted since the last line: {number(counts.refuted - before)}"] * bool(counts.refuted)
         print(f"hold: {now - self.begun:.0f} s: {', '.join(said)}", file=sys.stderr, flush=True)
