@@ -190,10 +190,10 @@ def notes(match: Match, circuit: Circuit) -> list[str]:
     return [f"    // not matched: {text}" for text in texts]
 
 
-ATTENTION = ["// ATTENTION: these inputs are constants. Runs with other values are not compared, and no report says so:"]
+ATTENTION = ["// ATTENTION: these inputs are constants. Runs with other values aren't compared, and no report says so:"]
 COMMENTS = {
     "given_overload_count": [
-        "The circuit ignores a request for 3 own overload frames. If the design ignores it, too, delete this part, so that",
+        "The circuit ignores a request for 3 own overload frames. If the design ignores it, too, delete this part: then",
         "nothing is assumed.",
     ]
 }
@@ -236,7 +236,8 @@ def draft(top: str, ports: list[Port], circuit: Circuit) -> str:
     inputs = ["input clock", *(f"input {ranged(width)}{name}" for name, width in widths.items())]
     reset = match.inputs["reset"].name if "reset" in match.inputs else "reset"
     lines = ["// Wiring for hold --play, a draft: review each line. dut is the design, gates the circuit."]
-    lines += [*warnings(match, circuit), "", "module wiring (", listed([*inputs, *(f"output {name}" for name in parts)], "    "), ");"]
+    lines += [*warnings(match, circuit), "", "module wiring ("]
+    lines += [listed([*inputs, *(f"output {name}" for name in parts)], "    "), ");"]
     lines += [f"    {MODULE} gates (", listed(gates_pins(match, circuit), "        "), "    );"]
     lines += [f"    {top} dut (", listed(dut_pins(match), "        "), "    );", ""]
     if any("_frame_" in name for name in parts):

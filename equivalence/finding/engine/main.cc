@@ -4,8 +4,8 @@
 //
 //     find GRAPH SEED CYCLES STEPS SECONDS GOES_ON [CHANGE..]
 //
-// CYCLES is for how many clock cycles of 512 lanes it plays. STEPS and SECONDS are the limits of each proof: in steps of
-// the solver, and in seconds; 0 is no limit. GOES_ON is 1 if guesses are to be proved even if an output is refuted.
+// CYCLES is for how many clock cycles of 512 lanes it plays. STEPS and SECONDS are the limits of each proof, in steps
+// of the solver and in seconds; 0 is no limit. GOES_ON is 1 if guesses are to be proved even if an output is refuted.
 // With CHANGE.., what was learned of the design without a change is tried with each of these. The status is 4 if
 // outputs differ.
 
