@@ -193,8 +193,8 @@ def notes(match: Match, circuit: Circuit) -> list[str]:
 ATTENTION = ["// ATTENTION: these inputs are constants. Runs with other values aren't compared, and no report says so:"]
 COMMENTS = {
     "given_overload_count": [
-        "The circuit ignores a request for 3 own overload frames. If the design ignores it, too, delete this part: then",
-        "nothing is assumed.",
+        "The circuit ignores a request for 3 own overload frames. If the design ignores it, too, delete this part:",
+        "then nothing is assumed.",
     ]
 }
 

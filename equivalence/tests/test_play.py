@@ -331,7 +331,7 @@ class Drafts(Files):
             "assign same_frame_identifier = !received || gates.frame_identifier == dut.rx_id;",
             "//   dut.listen_only is 1'd0",
             "//   gates.enable is 1'b1: each clock cycle is a bit time",
-            "// nothing is assumed.",
+            "// then nothing is assumed.",
             "// not matched: output debug",
             "// not matched: the circuit's output passive",
         ):
