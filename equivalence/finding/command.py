@@ -10,7 +10,7 @@ from collections.abc import Callable, Iterator
 from dataclasses import dataclass, field, replace
 
 from finding.learning import Learning
-from finding.progress import Progress
+from finding.progress import Counts, Progress
 from finding.refuted import Refuted, Refuting, Showing
 from finding.wiring import with_words
 from finding.writing import Guess, Limit, Mapping, Writing, held_outputs
@@ -25,7 +25,7 @@ from playing.building import LEARNER, built
 from playing.printing import number
 
 CYCLES = 16000  # clock cycles of 512 lanes
-PROOF_SECONDS = 600
+STEPS = 10_000_000  # of the solver, in each proof of a search
 MOST_STATES = 4
 FOUND = ["What follows was found by equivalence/hold --find."]
 LEFT = [
@@ -38,10 +38,17 @@ LEFT = [
 DIFFERENT = 4  # the learner's status if outputs differ
 
 
-@dataclass
-class Limits:
-    """How long the learner proves, in seconds, and whether it goes on when an output is refuted."""
+REFUTED, PROVED, UNDECIDED = range(3)  # what the learner says of an output
 
+
+@dataclass(frozen=True)
+class Limits:
+    """How far the learner proves, and whether it goes on when an output is refuted.
+
+    The same questions take the solver the same number of steps on any machine. 0 seconds are no limit.
+    """
+
+    steps: int
     seconds: int
     goes_on: bool
 
@@ -54,7 +61,9 @@ class Found:
     kinds: int = 0
     guessed: int = 0
     questions: tuple[int, ...] = ()
-    outputs: list[bool] = field(default_factory=list)
+    steps: int = 0  # of the solver
+    is_done: bool = True  # otherwise a limit was reached
+    outputs: list[int] = field(default_factory=list)
     needed: list[Guess] = field(default_factory=list)
     left: list[Guess] = field(default_factory=list)
     guesses: list[Guess] = field(default_factory=list)
@@ -79,9 +88,11 @@ class Found:
         elif word == "kept":
             self.kept = numbers[0]
         elif word == "asked":
-            self.questions = tuple(numbers)
+            self.questions, self.steps = tuple(numbers[:3]), numbers[3]
+        elif word == "is_done":
+            self.is_done = bool(numbers[0])
         elif word == "outputs":
-            self.outputs = [bool(it) for it in numbers]
+            self.outputs = numbers
         elif word == "chain":
             self.chain.append((numbers[0], numbers[1], numbers[2]))
         elif word == "limit":
@@ -94,10 +105,14 @@ class Found:
         gone = {number - len(self.outputs) for state in self.refuting for number in state.gone}
         return [self.guesses[number] for number in sorted(gone) if 0 <= number < self.kept]
 
+    def with_result(self, result: int, outputs: list[str]) -> list[str]:
+        """The compared outputs with this result."""
+        return [name for name, it in zip(outputs, self.outputs) if it == result]
+
     @property
     def is_proved(self) -> bool:
         """Whether all outputs are proved equal."""
-        return bool(self.outputs) and all(self.outputs)
+        return bool(self.outputs) and set(self.outputs) == {PROVED}
 
 
 def lines_of(words: list[str], room: pathlib.Path, progress: Progress) -> Iterator[str]:
@@ -108,7 +123,7 @@ def lines_of(words: list[str], room: pathlib.Path, progress: Progress) -> Iterat
             for line in ran.stdout:
                 word, *given = line.split()
                 if word == "progress":
-                    progress.show(given[0], int(given[1]), int(given[2]))
+                    progress.show(given[0], Counts(*map(int, given[1:])))
                 else:
                     yield line.rstrip("\n")
         if ran.returncode == DIFFERENT:
@@ -125,7 +140,8 @@ def learner(model: Learning, room: pathlib.Path, seed: int, limits: Limits) -> l
         print(line, file=sys.stderr)
     graph = room / "learn"
     model.write_to_learn(graph)
-    return [str(program), str(graph), str(seed), str(CYCLES), str(limits.seconds), str(int(limits.goes_on))]
+    numbers = (seed, CYCLES, limits.steps, limits.seconds, int(limits.goes_on))
+    return [str(program), str(graph), *map(str, numbers)]
 
 
 def learned(words: list[str], room: pathlib.Path, progress: Progress) -> Found | None:
@@ -149,7 +165,7 @@ class Finding:
     asking: Callable[[Relation], Asking]
     room: pathlib.Path
     seed: int
-    seconds: int
+    limits: Limits
     output: str | None
     vcd: str | None
 
@@ -161,14 +177,14 @@ class Finding:
         progress.show("reading")
         model = Learning(netlist)
         progress.show("reading")
-        limits = Limits(self.seconds, self.output is not None)
-        found = learned(learner(model, self.room, self.seed, limits), self.room, progress)
+        found = learned(learner(model, self.room, self.seed, self.limits), self.room, progress)
         if found is None:
             return self.play(self.read(self.relation))
         lines = [f"learned: {number(found.guessed)} guesses hold in {number(found.states)} states that were played"]
-        lines.append(f"searched: {found.questions[0]} questions, {found.questions[2]} guesses given up")
+        lines.append(f"searched: {number(found.questions[0])} questions, {number(found.questions[2])} guesses given up")
         lines += self.lost(model, found)
-        show([*lines, f"found: {len(found.needed)} equalities, {time.monotonic() - begun:.0f} s"])
+        result = f"{number(len(found.needed))} equalities" if found.is_proved else "no proof"
+        show([*lines, f"found: {result}, {time.monotonic() - begun:.0f} s"])
         if not found.is_proved:
             return self.give_up(model, found)
         held = held_outputs(model, model.lists_to_learn()["held"])
@@ -201,10 +217,24 @@ class Finding:
             show(list(showing.lines(found.refuting[at])))
             if there >= 0:
                 show([f"  played: {number(there)} states of this phase, {number(same)} with these registers"])
-        proved = [name for name, is_proved in zip(showing.outputs(), found.outputs) if is_proved]
-        held = [name for name in proved if name in model.held_parts()]
+        held = [name for name in found.with_result(PROVED, showing.outputs()) if name in model.held_parts()]
         mapping = Mapping(found.left, held, LEFT, found.lost())
         self.write(Writing(model, found.limits).text(self.relation, mapping))
-        lost = [name for name, is_proved in zip(showing.outputs(), found.outputs) if not is_proved]
-        show([f"not proved: {', '.join(lost) or 'time is up'}; no difference was found either"])
+        show(list(result_lines(showing.outputs(), found, self.limits)))
         return Outcome(NOT_PROVED, "not proved, and no difference was found either")
+
+
+def result_lines(outputs: list[str], found: Found, limits: Limits) -> Iterator[str]:
+    """What became of the compared outputs in a search that did not prove them all."""
+    refuted, proved, undecided = (found.with_result(it, outputs) for it in (REFUTED, PROVED, UNDECIDED))
+    if proved:
+        yield f"proved: {', '.join(proved)}"
+    if undecided:
+        yield f"undecided: {', '.join(undecided)}"
+        if found.is_done:
+            yield "  the search ended with the first output that was given up; with -o FILE it goes on"
+        elif found.steps > limits.steps:
+            yield f"  the limit of {number(limits.steps)} steps was reached (--steps)"
+        else:
+            yield f"  the limit of {number(limits.seconds)} seconds was reached (--seconds)"
+    yield f"not proved: {', '.join(refuted or undecided)}; no difference was found either"

@@ -314,13 +314,18 @@ class Conditions:
                     self.add([name, form, f"bytes_over_{number}"], f"byte {form} {name}", bits)
 
     def add_latest(self) -> None:
-        """For each level by how many have come after it, before the CRC sequence or since: a register may equal it."""
+        """For each level by how many have come after it: a register may equal it.
+
+        These are counted to the present level, before the CRC sequence and since; or to the end of the data field.
+        """
         part = (*self.base(STUFFED_PART), "before_crc")
         for number, level in enumerate(self.word("words_latest")):
             if number < LEVELS:
                 self.add([*part, f"past_{number + 1}"], "level ago", [level])
             known = f"crc_below_{number + 1}" if number < CRC_LEVELS else f"taken_from_{number + 1}"
             self.add(["frame", "past_data", known], "level ago with the CRC sequence", [level])
+        for number, level in enumerate(self.word("words_latest_before_crc")):
+            self.add(["frame", "past_data", f"before_crc_{number + 1}"], "level before the CRC sequence", [level])
         for byte in range(8):
             for bit, level in enumerate(self.word("words_latest")[:7]):
                 atoms = [*self.base(STUFFED_PART), "in_data", f"byte_{byte}", f"bit_over_{bit}"]

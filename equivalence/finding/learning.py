@@ -121,7 +121,10 @@ class Learning(Model):
         return made
 
     def guesses_of_circuit(self) -> list[tuple[int, int, int]]:
-        """A frame has up to five equal levels in a row, and no stuff bit is due after the stuffed part."""
+        """A frame has up to five equal levels in a row, and no stuff bit is due after the stuffed part.
+
+        `legal` implies it. Without these guesses the same designs are proved, but in a twentieth more steps.
+        """
         made = []
         for atoms, absent in ((["frame"], ("run_0", "run_over_5")), (["frame", "after_part"], ("stuff_bit",))):
             at = self.conditions.add(atoms, "sent", [FALSE])

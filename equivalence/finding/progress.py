@@ -4,6 +4,7 @@ from __future__ import annotations
 
 import sys
 import time
+from dataclasses import dataclass
 
 from playing.printing import number
 
@@ -21,19 +22,34 @@ WORK = {
 }
 
 
+@dataclass(frozen=True)
+class Counts:
+    """How far some work is, as the learner prints it; what is proved and needed are groups of guesses."""
+
+    round: int = 0
+    questions: int = 0
+    refuted: int = 0
+    proved: int = 0
+    needed: int = 0
+
+
 class Progress:
     """The lines of one search, with seconds since it began."""
 
     def __init__(self, begun: float) -> None:
         self.begun = self.last = begun
+        self.work, self.refuted = "", 0  # in the last line
 
-    def show(self, work: str, questions: int = 0, left: int = 0) -> None:
+    def show(self, work: str, counts: Counts = Counts()) -> None:
         """Prints a line if the last one is some seconds ago."""
         now = time.monotonic()
         if now < self.last + EVERY:
             return
-        self.last = now
-        counts = [f"{number(questions)} questions answered"] if questions else []
-        counts += [f"{number(left)} guesses left"] if left else []
-        text = ", ".join([WORK.get(work, work), *counts])
-        print(f"hold: {now - self.begun:.0f} s: {text}", file=sys.stderr, flush=True)
+        before = self.refuted if work == self.work else 0
+        self.last, self.work, self.refuted = now, work, counts.refuted
+        said = [WORK.get(work, work)]
+        said += [f"round {counts.round}"] if counts.round else []
+        said += [f"{number(counts.questions)} questions answered"] if counts.questions else []
+        said += [f"{number(counts.proved)} of {number(counts.needed)} groups of guesses proved"] * bool(counts.needed)
+        said += [f"guesses refuted since the last line: {number(counts.refuted - before)}"] * bool(counts.refuted)
+        print(f"hold: {now - self.begun:.0f} s: {', '.join(said)}", file=sys.stderr, flush=True)

@@ -85,9 +85,17 @@ def with_lines(relation: Relation, lines: list[str]) -> Relation:
     return read_relation(text, relation.path)
 
 
+def with_named_words(relation: Relation) -> Relation:
+    """The wiring or mapping with the words that it names as words_.., if it doesn't have the module with them."""
+    code = blanked(relation.text)
+    if re.search(rf"\b{MODULE}\b", code) or not (lines := instance(code)):
+        return relation
+    return with_lines(relation, lines)
+
+
 def with_words(relation: Relation, circuit: Circuit) -> Relation:
     """The wiring with all of these words. Raises Fault if it is a mapping that has some."""
     if re.search(rf"\b{MODULE}\b", blanked(relation.text)):
         said = f"{relation.path} has the module {MODULE}, which --find adds"
-        raise Fault(f"{said}: give the wiring without what was found")
+        raise Fault(f"{said}: give the wiring without it; parts may name its words, such as {PREFIX}count")
     return with_lines(relation, [*instance(), *earlier(earlier_words(circuit)), *clock_ago()])

@@ -15,7 +15,7 @@ from holding.relation import Relation, blanked, read_relation
 
 BIT = re.compile(r"(.*)\[(\d+)\]$", re.S)
 NAME = re.compile(r"[^A-Za-z0-9]+")
-LEVEL = re.compile(r"(?:past|left|below|from)_(\d+)")
+LEVEL = re.compile(r"(?:past|left|below|from|before_crc)_(\d+)")
 LOOPED = ("level ", "identifier to", "data to", "frame to", "later to")
 LINE = 118
 MOST_LOST = 12  # tests of a register in a guess that is not proved

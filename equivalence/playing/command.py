@@ -16,18 +16,15 @@ from playing.keeping import keep
 from playing.model import Model
 from playing.printing import ignored, number, played_lines, rule_lines, run_lines
 from playing.rules import Counts
-from playing.simulating import ANY_CHANGE, Played, Shown, simulate
+from playing.simulating import ANY_CHANGE, SHORTEN_CYCLES, Limit, Played, Shown, simulate
 
-SECONDS = 10
-CHECK_SECONDS = 5.0  # for the mutation that is injected
-SHORTEN_SECONDS = 4.0
 
 
 @dataclass
 class Wanted:
     """What the command line asks for."""
 
-    seconds: float
+    limit: Limit
     seed: int
     vcd: str | None
     keep: str | None
@@ -43,7 +40,7 @@ class Player:
 
     def check(self) -> str:
         """Plays a design with a mutation, which has to be found. Raises Fault if it isn't."""
-        played = simulate(self.program, self.graph, self.seed, CHECK_SECONDS, 0, ANY_CHANGE)
+        played = simulate(self.program, self.graph, self.seed, Limit(), 0, ANY_CHANGE)
         if played.is_different:
             return f"self-check: injected mutation detected, {played.seconds:.1f} s"
         raise Fault(
@@ -52,9 +49,9 @@ class Player:
             NOTHING_HELD,
         )
 
-    def play(self, seconds: float) -> Played:
+    def play(self, limit: Limit) -> Played:
         """Plays the design."""
-        return simulate(self.program, self.graph, self.seed, seconds, SHORTEN_SECONDS)
+        return simulate(self.program, self.graph, self.seed, limit, SHORTEN_CYCLES)
 
 
 def assumptions(netlist: Netlist) -> list[str]:
@@ -89,7 +86,7 @@ def play(netlist: Netlist, room: pathlib.Path, wanted: Wanted) -> Outcome:
         print(line, file=sys.stderr)
     if skipped := ignored(netlist):
         show([skipped])
-    played = player.play(wanted.seconds)
+    played = player.play(wanted.limit)
     if not played.bit_times:
         raise Fault(f"nothing was compared: enable was never 1, or no reset met {GIVEN}..", NOTHING_HELD)
     counts.take(played.counts)

@@ -58,6 +58,13 @@ OUTPUTS = {
     "frame_data": OF_FRAME + DATA,
 }
 NEEDED = ("reset", "bus")  # inputs that the wiring has in any case
+# what a constant at an input of the circuit means, as far as it isn't clear
+TIED = {
+    "enable": "each clock cycle is a bit time",
+    "integrating": "a reset leads to idle; with 1 it would lead to bus integration",
+    "waits": "no frame is pending, so the circuit never transmits",
+    "overload_request": "no own overload frames",
+}
 NOTES = """
     // Lines to copy, if the design needs them:
     // - a reset that is active at 0: .{reset}(~reset)
@@ -76,7 +83,9 @@ NOTES = """
     //   until the next bit time ends:
     //       always @(posedge clock) if (reset || gates.enable) event_code <= reset ? 4'd0 : gates.event_code;
     //   and its frame in the same way
-    // - a frame with other values in unused bits: compare what riddlesage_frame makes of both"""
+    // - a frame with other values in unused bits: compare what riddlesage_frame makes of both
+    // - an invariant for --find: an output holds_NAME of this module; it may name words of equivalence/WORDS.md, as
+    //       assign holds_count = !words_in_part || dut.COUNT == words_count;"""
 
 
 @dataclass
@@ -145,25 +154,49 @@ def ranged(width: int) -> str:
     return f"[{width - 1}:0] " if width > 1 else ""
 
 
+def tied(match: Match, circuit: Circuit) -> dict[str, str]:
+    """The circuit's inputs that get a constant."""
+    free = {*match.inputs, *NEEDED, *(["enable"] if match.strobe else [])}
+    held = {name: width for name, width in circuit.inputs.items() if name not in free}
+    return {name: "1'b1" if name == "enable" else f"{width}'d0" for name, width in held.items()}
+
+
+def warnings(match: Match, circuit: Circuit) -> list[str]:
+    """A comment on the inputs that get a constant."""
+    lines = [
+        f"//   gates.{name} is {value}{f': {TIED[name]}' if name in TIED else ''}"
+        for name, value in tied(match, circuit).items()
+    ]
+    lines += [f"//   dut.{it.name} is {it.width}'d0" for it in match.others if it.is_input]
+    if not lines:
+        return []
+    return ["//", *ATTENTION, *lines]
+
+
 def dut_pins(match: Match) -> list[str]:
     """The design's instance, a line for each input."""
     lines = []
     for name, port in match.inputs.items():
         inverted = name == "reset" and RESET_LOW.fullmatch(plain(port.name))
         lines.append(f".{port.name}({'~' if inverted else ''}{name})")
-    tied = [f".{it.name}({it.width}'d0)" for it in match.others if it.is_input]
-    return [*lines, *tied]
+    return [*lines, *(f".{it.name}({it.width}'d0)" for it in match.others if it.is_input)]
 
 
 def notes(match: Match, circuit: Circuit) -> list[str]:
     """Comments on what was not matched."""
-    missing = [name for name in circuit.inputs if name not in match.inputs and name not in (*NEEDED, "enable")]
-    others = sorted(match.others, key=lambda port: not port.is_input)
-    texts = [f"input {it.name}, which is 0" if it.is_input else f"output {it.name}" for it in others]
-    texts += [f"the circuit's input {name}, which is 0" for name in missing]
+    texts = [f"output {it.name}" for it in match.others if not it.is_input]
     texts += [f"the circuit's input {name}" for name in ("clock", *NEEDED) if name not in match.inputs]
     texts += [f"the circuit's output {name}" for name in OUTPUTS if name not in match.outputs]
     return [f"    // not matched: {text}" for text in texts]
+
+
+ATTENTION = ["// ATTENTION: these inputs are constants. Runs with other values aren't compared, and no report says so:"]
+COMMENTS = {
+    "given_overload_count": [
+        "The circuit ignores a request for 3 own overload frames. If the design ignores it, too, delete this part:",
+        "then nothing is assumed.",
+    ]
+}
 
 
 def parts_of(match: Match) -> dict[str, str]:
@@ -184,14 +217,10 @@ def parts_of(match: Match) -> dict[str, str]:
 
 def gates_pins(match: Match, circuit: Circuit) -> list[str]:
     """The circuit's instance, a line for each input."""
-    lines = [".clock(clock)"]
-    for name, width in circuit.inputs.items():
-        tied = "1'b1" if name == "enable" else f"{width}'d0"
-        taken = name if name in match.inputs or name in NEEDED else tied
-        if name == "enable" and match.strobe:
-            taken = f"dut.{match.strobe.name}"
-        lines.append(f".{name}({taken})")
-    return lines
+    constants = tied(match, circuit)
+    strobe = {"enable": f"dut.{match.strobe.name}"} if match.strobe else {}
+    taken = {name: {**constants, **strobe}.get(name, name) for name in circuit.inputs}
+    return [".clock(clock)", *(f".{name}({value})" for name, value in taken.items())]
 
 
 def listed(lines: Iterable[str], space: str) -> str:
@@ -206,13 +235,15 @@ def draft(top: str, ports: list[Port], circuit: Circuit) -> str:
     parts = parts_of(match)
     inputs = ["input clock", *(f"input {ranged(width)}{name}" for name, width in widths.items())]
     reset = match.inputs["reset"].name if "reset" in match.inputs else "reset"
-    lines = ["// Wiring for hold --play, a draft: review each line. dut is the design, gates the circuit.", ""]
-    lines += ["module wiring (", listed([*inputs, *(f"output {name}" for name in parts)], "    "), ");"]
+    lines = ["// Wiring for hold --play, a draft: review each line. dut is the design, gates the circuit."]
+    lines += [*warnings(match, circuit), "", "module wiring ("]
+    lines += [listed([*inputs, *(f"output {name}" for name in parts)], "    "), ");"]
     lines += [f"    {MODULE} gates (", listed(gates_pins(match, circuit), "        "), "    );"]
     lines += [f"    {top} dut (", listed(dut_pins(match), "        "), "    );", ""]
     if any("_frame_" in name for name in parts):
         lines.append("    wire received = gates.event_code == 4'd2, has_frame = received || gates.event_code == 4'd1;")
-    lines += [f"    assign {name} = {value};" for name, value in parts.items()]
+    for name, value in parts.items():
+        lines += [f"    // {it}" for it in COMMENTS.get(name, [])] + [f"    assign {name} = {value};"]
     lines += ["", *notes(match, circuit), NOTES.strip("\n").replace("{reset}", reset), "endmodule", ""]
     return "\n".join(lines)
 

@@ -81,8 +81,9 @@ def traffic_lines(shown: Shown) -> list[str]:
 def run_lines(shown: Shown) -> list[str]:
     """The lines that show the run."""
     run = shown.run
-    lines = [f"difference: shortened from {run.before - 1} to {shown.at} bit times, {run.seconds:.1f} s"]
-    return [*lines, verdict(shown), *report(shown), *traffic_lines(shown)]
+    line = f"difference: shortened from {number(run.before - 1)} to {number(shown.at)} bit times, {run.seconds:.1f} s"
+    ended = "" if run.is_done else "; its limit was reached, so it may be longer than needed"
+    return [line + ended, verdict(shown), *report(shown), *traffic_lines(shown)]
 
 
 def number(count: int) -> str:

@@ -12,6 +12,16 @@ from playing.model import Model
 
 DOMINANT, RECESSIVE, FORCED = range(3)  # what the tester does in a bit time, as engine/runs.h numbers it
 NO_CHANGE, ANY_CHANGE = 0, -1
+CYCLES = 80_000  # clock cycles
+SHORTEN_CYCLES = 40_000
+
+
+@dataclass(frozen=True)
+class Limit:
+    """For how many clock cycles all runs are played, and for how many seconds at most; 0 is no limit."""
+
+    cycles: int = CYCLES
+    seconds: float = 0.0
 
 
 @dataclass
@@ -45,6 +55,7 @@ class Run:
     seconds: float
     is_queued: bool  # pending frames are those of a queue
     needs_start: bool  # what registers hold before the reset matters
+    is_done: bool  # otherwise the limit was reached, and it may be longer than needed
     rows: list[Row] = field(default_factory=list)
     values: list[str] = field(default_factory=list)
 
@@ -82,7 +93,8 @@ def read_output(text: str) -> Played:
         elif word == "found":
             played.is_different = True
         elif word == "shortened":
-            played.run = Run(int(given[0]), float(given[2]), given[3] == "1", given[4] == "1")
+            is_queued, needs_start, is_done = (it == "1" for it in given[3:])
+            played.run = Run(int(given[0]), float(given[2]), is_queued, needs_start, is_done)
         elif word == "row" and played.run:
             played.run.rows.append(read_row(given))
         elif word == "values" and played.run:
@@ -91,10 +103,10 @@ def read_output(text: str) -> Played:
 
 
 def simulate(
-    program: pathlib.Path, graph: pathlib.Path, seed: int, seconds: float, shortens: float, change: int = NO_CHANGE
+    program: pathlib.Path, graph: pathlib.Path, seed: int, limit: Limit, shortens: int, change: int = NO_CHANGE
 ) -> Played:
-    """Plays until outputs differ, at most for some seconds. A run that shows it is made short; 0: it is not."""
-    words = [str(program), str(graph), str(seed), f"{seconds:.3f}", str(change), f"{shortens:.3f}"]
+    """Plays until outputs differ, or to a limit. A run that shows it is made short, in these clock cycles."""
+    words = [str(program), str(graph), str(seed), str(limit.cycles), f"{limit.seconds:.3f}", str(change), str(shortens)]
     ran = subprocess.run(words, capture_output=True, text=True)
     if ran.returncode:
         raise Fault(f"the simulator failed: {ran.stderr.strip() or f'status {ran.returncode}'}", FAILED)

@@ -19,8 +19,10 @@ FOLDER = pathlib.Path(__file__).resolve().parent.parent
 sys.path.insert(0, str(FOLDER))
 
 from finding import progress
+from finding.command import PROVED, REFUTED, UNDECIDED, Found, Limits, result_lines
 from finding.conditions import Atom, named_atoms
-from finding.wiring import instance, ports, with_lines
+from finding.progress import Counts
+from finding.wiring import instance, ports, with_lines, with_named_words
 from finding.writing import without_part
 from holding.faults import Fault
 from holding.gates import Gates
@@ -102,6 +104,12 @@ class Refusals(Files):
         self.prints(ran, 1, "has the module riddlesage_words, which --find adds")
 
     @unittest.skipUnless(has_tools(), "a tool is not installed")
+    def test_words_that_a_mapping_names(self) -> None:
+        text = wiring({"same_drive": "gates.drive == dut.drive", "holds_state": "dut.state == words_count[3:0]"})
+        ran = self.run_hold("--circuit", CIRCUIT, self.put("mapping.v", text), self.put("small.v", DESIGN))
+        self.assertRegex(ran.stdout, r"holds_state fails: dut\.state .*gates\.heard_count ", ran)
+
+    @unittest.skipUnless(has_tools(), "a tool is not installed")
     def test_a_design_that_differs(self) -> None:
         files = (self.put("wiring.v", wiring(SAME)), self.put("small.v", DESIGN))
         ran = self.run_hold("--find", "--circuit", CIRCUIT, *files)
@@ -140,13 +148,14 @@ class Searches(Files):
         self.assertRegex(made, r"(?s)output holds_phase,.*wire holds_place;")
 
     def test_a_difference_that_no_play_reaches(self) -> None:
-        status, printed, made = self.found("level ^ (age == 20'hfffff)", {})
+        status, printed, made = self.found("level ^ (age == 20'hfffff)", {"same_tec": "gates.tec == dut.copy.tec"})
         self.assertEqual(status, 4, printed)
         self.assertRegex(printed, r"(?m)^given up: .*dut\.age")
         self.assertRegex(printed, r"(?m)^  registers: .*dut\.age 0x[\da-f]+ then 0x[\da-f]+$")
         self.assertIn("\n  same_drive fails: dut.drive ", printed)
         self.assertRegex(printed, r"(?m)^  played: [\d,]+ states of this phase, 0 with these registers$")
-        self.assertIn("\nnot proved: same_drive; no difference was found either\n", printed)
+        self.assertRegex(printed, r"\nfound: no proof, \d+ s\n")
+        self.assertIn("\nproved: same_tec\nnot proved: same_drive; no difference was found either\n", printed)
         self.assertRegex(made, r"(?m)^    wire guess_age =")
         self.assertNotIn("holds_age", made)
         # what is left is a register mapping
@@ -155,18 +164,39 @@ class Searches(Files):
         self.assertRegex(ran.stdout, r"\nreset: proved(.*\n)*outputs: counterexample(.*\n)*step: proved")
 
 
+class Results(unittest.TestCase):
+    def lines(self, results: list[int], is_done: bool = True, steps: int = 7) -> list[str]:
+        found = Found(outputs=results, is_done=is_done, steps=steps)
+        return list(result_lines(["same_a", "same_b", "same_c"], found, Limits(1000, 60, False)))
+
+    def test_what_became_of_the_outputs(self) -> None:
+        ended = "  the search ended with the first output that was given up; with -o FILE it goes on"
+        not_proved = "not proved: {}; no difference was found either"
+        undecided = ["undecided: same_a, same_b, same_c", "", not_proved.format("same_a, same_b, same_c")]
+        self.assertEqual(self.lines([REFUTED, PROVED, PROVED]), ["proved: same_b, same_c", not_proved.format("same_a")])
+        lines = ["undecided: same_a, same_c", ended, not_proved.format("same_b")]
+        self.assertEqual(self.lines([UNDECIDED, REFUTED, UNDECIDED]), lines)
+        undecided[1] = "  the limit of 1,000 steps was reached (--steps)"
+        self.assertEqual(self.lines([UNDECIDED] * 3, False, 1001), undecided)
+        undecided[1] = "  the limit of 60 seconds was reached (--seconds)"
+        self.assertEqual(self.lines([UNDECIDED] * 3, False), undecided)
+
+
 class Waiting(unittest.TestCase):
     def test_lines_are_some_seconds_apart(self) -> None:
         shown = io.StringIO()
-        with mock.patch.object(progress.time, "monotonic", side_effect=[104.0, 111.0, 112.0, 130.0]):
+        with mock.patch.object(progress.time, "monotonic", side_effect=[104.0, 111.0, 112.0, 130.0, 141.0]):
             with contextlib.redirect_stderr(shown):
                 made = progress.Progress(100.0)
                 made.show("playing")
-                made.show("proving", 1200, 34)
-                made.show("proving", 1300, 34)
-                made.show("guessing")
-        lines = ["hold: 11 s: proving the outputs, 1,200 questions answered, 34 guesses left"]
-        lines.append("hold: 30 s: looking for what is equal in all states that were played")
+                made.show("proving", Counts(0, 1200, 34, 5, 17))
+                made.show("proving", Counts(0, 1300, 36, 5, 17))
+                made.show("proving", Counts(0, 1400, 37, 9, 17))
+                made.show("guessing", Counts(2))
+        proving = "proving the outputs, {} questions answered, {} of 17 groups of guesses proved, "
+        proving += "guesses refuted since the last line: {}"
+        lines = [f"hold: 11 s: {proving.format('1,200', 5, 34)}", f"hold: 30 s: {proving.format('1,400', 9, 3)}"]
+        lines.append("hold: 41 s: looking for what is equal in all states that were played, round 2")
         self.assertEqual(shown.getvalue().splitlines(), lines)
 
 
@@ -183,6 +213,21 @@ class Words(unittest.TestCase):
             wanted = f"module wiring (input clock, reset, {left});\n    wire holds_x;"
             self.assertEqual(made[: len(wanted)], wanted)
 
+
+    def test_the_page_has_all_words_with_their_widths(self) -> None:
+        listed: dict[str, int] = {}
+        for names, widths in re.findall(r"(?m)^\| (`.*?`) \| ([\d, ]+) \|", (FOLDER / "WORDS.md").read_text()):
+            known, sizes = re.findall(r"`(\w+)`", names), [int(it) for it in widths.split(",")]
+            self.assertIn(len(sizes), (1, len(known)), names)
+            listed |= dict(zip(known, sizes * len(known) if len(sizes) == 1 else sizes))
+        self.assertEqual(listed, ports()["output"])
+
+    def test_words_are_added_where_they_are_named(self) -> None:
+        one = with_named_words(read_relation(wiring({**SAME, "holds_x": "words_left < 7'd9"}), "wiring.v"))
+        self.assertRegex(one.text, r"wire \[6:0\] words_left;(.*\n)* +riddlesage_words words \(")
+        self.assertEqual(with_named_words(one).text, one.text)
+        none = read_relation(wiring(SAME) + "// words_left\n", "wiring.v")
+        self.assertEqual(with_named_words(none).text, none.text)
 
     def test_the_module_has_the_ports_that_are_connected(self) -> None:
         of = ports()

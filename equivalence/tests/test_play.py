@@ -30,9 +30,10 @@ from playing.building import simulator
 from playing.drafting import Port, draft, matched
 from playing.keeping import FAMILY, case, obstacle, transcript
 from playing.model import Model
-from playing.printing import difference, verdict
+from playing.printing import difference, run_lines, verdict
 from playing.rules import ALL, RULES, Counts
-from playing.simulating import DOMINANT, FORCED, NO_CHANGE, Frame, Run, Shown, read_output, simulate
+from playing.simulating import DOMINANT, FORCED, NO_CHANGE, SHORTEN_CYCLES
+from playing.simulating import Frame, Limit, Run, Shown, read_output, simulate
 
 # drives recessive, and has a register that a reset sets
 DESIGN = "module small(input clock, input reset, input bus, output drive, output reg [3:0] state); \
@@ -189,7 +190,9 @@ class Refusals(Played):
         self.prints(ran, 3, "no C++ compiler is installed, which builds the simulator: apt-get install g++")
 
     def test_wrong_usage(self) -> None:
-        for words in (["--keep", "x"], ["--seed", "1"], ["--play", "--smoke", "1"], ["--play", "--seconds", "0"]):
+        wrong = [["--keep", "x"], ["--seed", "1"], ["--cycles", "1"], ["--play", "--steps", "1"]]
+        wrong += [["--play", "--smoke", "1"], ["--play", "--seconds", "0"], ["--play", "--cycles", "0"]]
+        for words in wrong:
             self.assertEqual(self.run_hold(*words, "wiring.v", "small.v").returncode, 2)
 
 
@@ -203,7 +206,7 @@ class Simulator(Files):
     def shown(self, parts: dict[str, str]) -> Shown:
         model = Model(self.netlist(parts))
         model.write(self.room / "graph", Counts(model).literals)
-        played = simulate(simulator(self.room)[0], self.room / "graph", 1, 5, 1, NO_CHANGE)
+        played = simulate(simulator(self.room)[0], self.room / "graph", 1, Limit(), SHORTEN_CYCLES, NO_CHANGE)
         assert played.run is not None
         return Shown(model, played.run)
 
@@ -219,6 +222,23 @@ class Simulator(Files):
         for at in range(len(shown.run.values) - 1):
             for held, taken in shown.model.registers.items():
                 self.assertEqual(shown.value(at + 1, held), shown.value(at, taken))
+
+    def test_a_run_that_may_be_longer_than_needed(self) -> None:
+        shown = self.shown(LATE)
+        self.assertRegex(run_lines(shown)[0], r"^difference: shortened from [\d,]+ to \d+ bit times, \d\.\d s$")
+        shown.run.before, shown.run.is_done = 1235, False
+        said = r"from 1,234 to .* s; its limit was reached, so it may be longer than needed$"
+        self.assertRegex(run_lines(shown)[0], said)
+
+    def test_a_limit_in_clock_cycles_depends_on_the_seed_alone(self) -> None:
+        model = Model(self.netlist({**SAME, **SILENCE}))
+        model.write(self.room / "graph", Counts(model).literals)
+        program = simulator(self.room)[0]
+        one, same, other = (simulate(program, self.room / "graph", seed, Limit(3000), 0) for seed in (1, 1, 2))
+        self.assertEqual((one.cycles, one.bit_times, one.counts), (3000, same.bit_times, same.counts))
+        self.assertNotEqual(one.bit_times, other.bit_times)
+        shorter = simulate(program, self.room / "graph", 1, Limit(0, 0.1), 0)
+        self.assertGreater(shorter.cycles, 0)
 
     def test_the_words_of_a_verdict(self) -> None:
         shown = self.shown({**LATE, "same_tec": "gates.tec == 9'd0"})
@@ -309,11 +329,13 @@ class Drafts(Files):
             ".rst_n_i(~reset),",
             ".listen_only(1'd0)",
             "assign same_frame_identifier = !received || gates.frame_identifier == dut.rx_id;",
-            "// not matched: input listen_only, which is 0",
+            "//   dut.listen_only is 1'd0",
+            "//   gates.enable is 1'b1: each clock cycle is a bit time",
+            "// then nothing is assumed.",
             "// not matched: output debug",
             "// not matched: the circuit's output passive",
         ):
-            self.assertIn(f" {line}\n", ran.stdout)
+            self.assertRegex(ran.stdout, rf"(?m)^ *{re.escape(line)}$")
         self.assertLessEqual(max(map(len, ran.stdout.splitlines())), 120)
         played = self.run_hold("--play", "--seconds", "1", self.put("wiring.v", ran.stdout), design)
         self.assertIn("  fail at ", played.stdout, played)
@@ -325,7 +347,7 @@ class Drafts(Files):
 
 class Texts(unittest.TestCase):
     def test_the_output_of_the_simulator(self) -> None:
-        lines = ["played 1000 10 5 0.5", "counts 1 2", "found 9 3", "shortened 10 4 0.25 1 0"]
+        lines = ["played 1000 10 5 0.5", "counts 1 2", "found 9 3", "shortened 10 4 0.25 1 0 1"]
         lines += ["row 1 0 1 1 -1", "values 01", "row 0 0 1 2 2 1 0 5 8 255", "values 10"]
         played = read_output("\n".join(lines))
         self.assertEqual((played.bit_times, played.left_out, played.counts), (1000, 5, [1, 2]))

@@ -2,15 +2,17 @@
 // and called by equivalence/hold --find, with a graph that Python wrote, and prints what Python reads: a word and
 // numbers on a line.
 //
-//     find GRAPH SEED CYCLES SECONDS GOES_ON [CHANGE..]
+//     find GRAPH SEED CYCLES STEPS SECONDS GOES_ON [CHANGE..]
 //
-// CYCLES is for how many clock cycles of 512 lanes it plays; SECONDS the time limit of the proof; GOES_ON is 1 if
-// guesses are to be proved even if an output is refuted. With CHANGE.., what was learned of the design without a change
-// is tried with each of these. The status is 4 if outputs differ.
+// CYCLES is for how many clock cycles of 512 lanes it plays. STEPS and SECONDS are the limits of each proof, in steps
+// of the solver and in seconds; 0 is no limit. GOES_ON is 1 if guesses are to be proved even if an output is refuted.
+// With CHANGE.., what was learned of the design without a change is tried with each of these. The status is 4 if
+// outputs differ.
 
 #include <cstdio>
 #include <cstdlib>
 #include <exception>
+#include <limits>
 #include <set>
 #include <utility>
 
@@ -28,7 +30,7 @@ constexpr int PACE = 4, LONGEST = 64;
 // Plays for some clock cycles, or for more of them if a bit time has many: rare states need many bit times.
 void play_long(play::Playing &playing, std::int64_t cycles) {
     for (int factor = 1; factor <= LONGEST && playing.difference().lane < 0; factor++) {
-        playing.run(1e9, factor * cycles);
+        playing.run({factor * cycles});
         if (playing.bit_times() * PACE >= cycles * play::LANES) return;
     }
 }
@@ -66,7 +68,6 @@ Graph watching(const Graph &graph, const Conditions &conditions, const std::vect
 // Plays once more, and gives up the guesses that don't hold in a state it reaches, which becomes a sample.
 std::vector<Guess> refuted(const Graph &graph, const Conditions &conditions, const std::vector<Guess> &guesses,
                            std::uint64_t seed, std::int64_t cycles, Progress &progress, Samples &samples) {
-    progress.enter("checking");
     const Graph watched = watching(graph, conditions, guesses);
     const Literals &literals = watched.list("watched");
     std::vector<Guess> gone;
@@ -74,7 +75,7 @@ std::vector<Guess> refuted(const Graph &graph, const Conditions &conditions, con
     for (std::size_t at = 0; at < left.size(); at++) left[at] = at;
     play::Playing playing(watched, {seed, 0});
     playing.watch([&](const Program &program, const Lanes &which, std::int64_t) {
-        progress.count(0, left.size());
+        progress.counted().refuted = gone.size();
         progress.show();
         std::size_t kept = 0;
         for (const std::size_t at : left) {
@@ -155,10 +156,10 @@ void print_guess(const char *word, const Guess &guess) {
 
 // The guesses that hold after a reset.
 std::vector<Guess> after_reset(const Graph &graph, const Conditions &conditions, const std::vector<Guess> &guesses,
-                               int change, double seconds, Progress &progress) {
+                               int change, const Effort &effort, Progress &progress) {
     progress.enter("resetting");
     Proving proving(graph, conditions, guesses, {true, false, change}, progress);
-    proving.run(true, true, seconds);
+    proving.run(true, true, effort);
     std::vector<Guess> kept;
     for (std::size_t at = 0; at < proving.all().size(); at++)
         if (proving.is_alive(at)) kept.push_back(proving.all()[at]);
@@ -168,12 +169,12 @@ std::vector<Guess> after_reset(const Graph &graph, const Conditions &conditions,
 // For each of some changes of the design, which the play did not have: where the proof fails. The line has the number
 // of the change, that of the output, the state by which what excludes it was given up, and the first guess that was.
 void prove_changes(const Graph &graph, const Conditions &conditions, const std::vector<Guess> &guesses,
-                   const std::vector<int> &changes, double seconds, Progress &progress) {
+                   const std::vector<int> &changes, const Effort &effort, Progress &progress) {
     for (const int change : changes) {
-        const std::vector<Guess> kept = after_reset(graph, conditions, guesses, change, seconds, progress);
+        const std::vector<Guess> kept = after_reset(graph, conditions, guesses, change, effort, progress);
         progress.enter("proving");
         Proving step(graph, conditions, kept, {false, false, change}, progress);
-        const bool is_done = step.run(false, false, seconds);
+        const bool is_done = step.run(false, false, effort);
         const std::vector<int> chain = step.chain();
         if (chain.empty()) {
             std::printf("change %d %s\n", change, is_done ? "proved" : "undecided");
@@ -202,12 +203,13 @@ std::vector<Guess> guessed(Graph &graph, Conditions &conditions, Samples &sample
                            std::int64_t cycles, Progress &progress) {
     std::vector<Guess> guesses, dead, known;
     for (int round = 0; round < ROUNDS; round++) {
-        progress.enter("guessing");
+        progress.enter("guessing", round + 1);
         samples.sort();
         Guessing guessing(graph, conditions, samples);
         known = guessing.all(dead, known, progress);
         guesses = guessing.ranges(graph);
         guesses.insert(guesses.end(), known.begin(), known.end());
+        progress.enter("checking", round + 1);
         const std::vector<Guess> gone =
             refuted(graph, conditions, guesses, seed + 1 + round, cycles / 4, progress, samples);
         dead.insert(dead.end(), gone.begin(), gone.end());
@@ -221,13 +223,13 @@ std::vector<Guess> guessed(Graph &graph, Conditions &conditions, Samples &sample
 }
 
 // Of what is proved, what the outputs need; those that only take part in the proof are printed, too.
-void print_needed(const Graph &graph, const Conditions &conditions, const std::vector<Guess> &proved, double seconds,
-                  Progress &progress) {
+void print_needed(const Graph &graph, const Conditions &conditions, const std::vector<Guess> &proved,
+                  const Effort &effort, Progress &progress) {
     progress.enter("reducing");
     // a mapping is easier to read if a register equals one thing under a condition
     for (const std::vector<Guess> &some : {first_of_each(proved), proved}) {
         Proving again(graph, conditions, some, {false, true, 0}, progress);
-        if (!again.reduce(seconds)) continue;
+        if (!again.reduce(effort)) continue;
         const std::vector<char> standing = again.standing();
         for (std::size_t at = 0; at < some.size(); at++) print_guess(standing[at] ? "needed" : "left", some[at]);
         return;
@@ -237,15 +239,22 @@ void print_needed(const Graph &graph, const Conditions &conditions, const std::v
 
 void print_outputs(const Proving &step, std::size_t outputs, bool is_done) {
     const Proving::Counts &counts = step.counts();
-    std::printf("asked %lld %lld %lld\n", static_cast<long long>(counts.questions),
-                static_cast<long long>(counts.answered), static_cast<long long>(counts.gone));
+    std::printf("asked %lld %lld %lld %lld\n", static_cast<long long>(counts.questions),
+                static_cast<long long>(counts.answered), static_cast<long long>(counts.gone),
+                static_cast<long long>(step.steps()));
+    std::printf("is_done %d\n", is_done);
     std::printf("outputs");
-    for (std::size_t at = 0; at < outputs; at++) std::printf(" %d", is_done && step.output_is_proved(at));
+    for (std::size_t at = 0; at < outputs; at++) std::printf(" %d", step.output(at));
     std::printf("\n");
 }
 
+Effort effort_of(std::int64_t steps, double seconds) {
+    return {steps > 0 ? steps : std::numeric_limits<std::int64_t>::max(),
+            seconds > 0 ? seconds : std::numeric_limits<double>::infinity()};
+}
+
 // False if outputs differ.
-bool find(Graph graph, std::uint64_t seed, std::int64_t cycles, double seconds, bool goes_on,
+bool find(Graph graph, std::uint64_t seed, std::int64_t cycles, const Effort &effort, bool goes_on,
           const std::vector<int> &changes) {
     Progress progress;
     bool is_different = false;
@@ -255,24 +264,24 @@ bool find(Graph graph, std::uint64_t seed, std::int64_t cycles, double seconds, 
     Conditions conditions(graph);
     const std::vector<Guess> guesses = guessed(graph, conditions, samples, seed, cycles, progress);
     if (!changes.empty()) {
-        prove_changes(graph, conditions, guesses, changes, seconds, progress);
+        prove_changes(graph, conditions, guesses, changes, effort, progress);
         return true;
     }
-    const std::vector<Guess> kept = after_reset(graph, conditions, guesses, 0, seconds, progress);
+    const std::vector<Guess> kept = after_reset(graph, conditions, guesses, 0, effort, progress);
     progress.enter("proving");
     Proving step(graph, conditions, kept, {}, progress);
-    const bool is_done = step.run(false, goes_on, seconds);
+    const bool is_done = step.run(false, goes_on, effort);
     const std::size_t outputs = graph.list("same").size();
     print_outputs(step, outputs, is_done);
-    bool is_equal = is_done;
-    for (std::size_t at = 0; at < outputs; at++) is_equal = is_equal && step.output_is_proved(at);
+    bool is_equal = true;
+    for (std::size_t at = 0; at < outputs; at++) is_equal = is_equal && step.output(at) == Proving::PROVED;
     const std::vector<Guess> &all = step.all();
     const std::vector<char> stands = is_equal ? step.standing() : step.holding();
     std::vector<Guess> proved;
     for (std::size_t at = 0; at < all.size(); at++)
         if (stands[at]) proved.push_back(all[at]);
     if (is_equal)
-        print_needed(graph, conditions, proved, seconds, progress);
+        print_needed(graph, conditions, proved, effort, progress);
     else
         for (const Guess &guess : proved) print_guess("left", guess);
     for (const Refuting &state : step.refuting()) {
@@ -291,17 +300,18 @@ bool find(Graph graph, std::uint64_t seed, std::int64_t cycles, double seconds, 
 }  // namespace find
 
 int main(int count, char **words) {
-    if (count < 6) {
-        std::fprintf(stderr, "usage: find GRAPH SEED CYCLES SECONDS GOES_ON [CHANGE..]\n");
+    if (count < 7) {
+        std::fprintf(stderr, "usage: find GRAPH SEED CYCLES STEPS SECONDS GOES_ON [CHANGE..]\n");
         return 2;
     }
     try {
         const play::Graph graph(words[1]);
         const std::uint64_t seed = std::strtoull(words[2], nullptr, 10);
         std::vector<int> changes;
-        for (int at = 6; at < count; at++) changes.push_back(std::atoi(words[at]));
-        const bool goes_on = words[5][0] == '1';
-        if (!find::find(graph, seed, std::atoll(words[3]), std::atof(words[4]), goes_on, changes)) return 4;
+        for (int at = 7; at < count; at++) changes.push_back(std::atoi(words[at]));
+        const find::Effort effort = find::effort_of(std::atoll(words[4]), std::atof(words[5]));
+        const bool goes_on = words[6][0] == '1';
+        if (!find::find(graph, seed, std::atoll(words[3]), effort, goes_on, changes)) return 4;
     } catch (const std::exception &fault) {
         std::fprintf(stderr, "%s\n", fault.what());
         return 3;

@@ -11,22 +11,27 @@ namespace find {
 
 class Progress {
 public:
+    // How far some work is: the round of it, questions that the solver has answered, guesses that were refuted, and how
+    // many groups of guesses are proved of those that are needed.
+    struct Counts {
+        int round = 0;
+        std::int64_t questions = 0;
+        std::size_t refuted = 0, proved = 0, needed = 0;
+    };
+
     // `what` is a word for the work that begins, as finding/progress.py knows it.
-    void enter(const char *what) {
+    void enter(const char *what, int round = 0) {
         work = what;
-        questions = 0;
-        left = 0;
+        counts = {};
+        counts.round = round;
     }
-    // Questions that the solver has answered, and guesses that it has not refuted.
-    void count(std::int64_t answered, std::size_t guesses) {
-        questions = answered;
-        left = guesses;
-    }
+    Counts &counted() { return counts; }
     void show() {
         const double now = play::now_in_seconds();
         if (now < last + SECONDS) return;
         last = now;
-        std::printf("progress %s %lld %zu\n", work, static_cast<long long>(questions), left);
+        std::printf("progress %s %d %lld %zu %zu %zu\n", work, counts.round, static_cast<long long>(counts.questions),
+                    counts.refuted, counts.proved, counts.needed);
         std::fflush(stdout);
     }
 
@@ -35,8 +40,7 @@ private:
 
     const char *work = "playing";
     double last = play::now_in_seconds();
-    std::int64_t questions = 0;
-    std::size_t left = 0;
+    Counts counts;
 };
 
 }  // namespace find

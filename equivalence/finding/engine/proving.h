@@ -190,24 +190,37 @@ struct Refuting {
     int earlier;
 };
 
-struct TimeIsUp : std::runtime_error {
-    TimeIsUp() : std::runtime_error("time is up") {}
+// How far a proof goes: in steps of the solver, of which the same questions take the same number on any machine; and in
+// seconds.
+struct Effort {
+    std::int64_t steps;
+    double seconds;
 };
 
-// Ends a question when time is up, and shows how far the search is.
+struct LimitReached : std::runtime_error {
+    LimitReached() : std::runtime_error("a limit is reached") {}
+};
+
+// Ends a question when a limit is reached, and shows how far the search is. The solver calls it once a step.
 class Waiting : public CaDiCaL::Terminator {
 public:
     explicit Waiting(Progress &progress) : progress(progress) {}
 
-    void begin(double seconds) { end = play::now_in_seconds() + seconds; }
+    void begin(const Effort &given) {
+        steps = 0;
+        most = given.steps;
+        end = play::now_in_seconds() + given.seconds;
+    }
     bool terminate() override {
         progress.show();
-        return play::now_in_seconds() > end;
+        return ++steps > most || play::now_in_seconds() > end;
     }
     Progress &shown() { return progress; }
+    std::int64_t taken() const { return steps; }
 
 private:
     Progress &progress;
+    std::int64_t steps = 0, most = 0;
     double end = 0;
 };
 
@@ -270,10 +283,10 @@ public:
 
     // Proves the outputs once more, and what their proofs depend on, assuming no more than it takes: as long as a state
     // refutes a group, the likeliest guesses that this state does not meet are assumed, too. False if that fails, or if
-    // time is up.
-    bool reduce(double seconds) {
+    // a limit is reached.
+    bool reduce(const Effort &effort) {
         is_reducing = true;
-        return in_time(seconds, [&] {
+        return within(effort, [&] {
             for (std::size_t at = 0; at < members.size(); at++)
                 if (is_asked(at)) need(static_cast<int>(at));
             for (std::size_t at = 0; at < queue.size(); at++) {
@@ -290,9 +303,9 @@ public:
     }
 
     // Proves the outputs, then what their proofs depend on, and so on; or all guesses. Without `goes_on` it ends when
-    // an output is refuted. False if time is up.
-    bool run(bool everything, bool goes_on, double seconds) {
-        return in_time(seconds, [&] {
+    // an output is refuted. False if a limit is reached.
+    bool run(bool everything, bool goes_on, const Effort &effort) {
+        return within(effort, [&] {
             for (std::size_t at = 0; at < members.size(); at++)
                 if (everything || is_asked(at)) need(static_cast<int>(at));
             for (std::size_t at = 0; at < queue.size() && (goes_on || !is_lost); at++) {
@@ -300,6 +313,7 @@ public:
                 is_queued[which] = 0;
                 while (!prove(which)) {}
             }
+            is_complete = goes_on || !is_lost;
             return true;
         });
     }
@@ -307,8 +321,10 @@ public:
     // All guesses: those given, and weaker ones of those that were given up.
     const std::vector<Guess> &all() const { return guesses; }
     bool is_alive(std::size_t at) const { return alive[outputs + at]; }
-    bool output_is_proved(std::size_t at) const { return alive[at]; }
+    enum Result { REFUTED, PROVED, UNDECIDED };
+    Result output(std::size_t at) const { return !alive[at] ? REFUTED : is_complete ? PROVED : UNDECIDED; }
     const Counts &counts() const { return tally; }
+    std::int64_t steps() const { return waiting.taken(); }
     const std::vector<Refuting> &refuting() const { return states; }
 
     // From the first state that refutes an output, the states by which what excludes it was given up, one by one. The
@@ -350,22 +366,32 @@ public:
 private:
     static constexpr int DEAD = -1, SATISFIABLE = 10;
 
-    // Does some work, whose result is false if time is up.
+    // Does some work, whose result is false if a limit is reached.
     template <typename Work>
-    bool in_time(double seconds, const Work &work) {
-        waiting.begin(seconds);
+    bool within(const Effort &effort, const Work &work) {
+        waiting.begin(effort);
         try {
             return work();
-        } catch (const TimeIsUp &) {
+        } catch (const LimitReached &) {
             return false;
         }
     }
     // Whether the assumed clauses have a solution.
     bool is_satisfiable() {
-        waiting.shown().count(tally.questions, alive.size() - outputs - static_cast<std::size_t>(tally.gone));
+        show_counts();
         const int status = waiting.terminate() ? 0 : unrolled.solver.solve();
-        if (!status) throw TimeIsUp();
+        if (!status) throw LimitReached();
         return status == SATISFIABLE;
+    }
+    void show_counts() {
+        Progress::Counts &shown = waiting.shown().counted();
+        shown.questions = tally.questions;
+        shown.refuted = static_cast<std::size_t>(tally.gone);
+        shown.proved = shown.needed = 0;
+        for (std::size_t at = 0; at < members.size(); at++) {
+            shown.needed += needed[at] != 0;
+            shown.proved += needed[at] && proved[at];
+        }
     }
 
     // Outputs, and what the user of the learner has guessed.
@@ -635,7 +661,7 @@ private:
     const Graph &graph;
     const Conditions &conditions;
     std::vector<Guess> guesses;
-    bool resets, fine, is_reducing = false, is_lost = false;
+    bool resets, fine, is_reducing = false, is_lost = false, is_complete = false;
     Waiting waiting;
     Unrolled unrolled;
     std::size_t outputs = 0;

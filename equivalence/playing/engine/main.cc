@@ -2,15 +2,15 @@
 // by equivalence/hold --play, with a graph that Python wrote, and prints what Python reads: a word and numbers on a
 // line.
 //
-//     play GRAPH SEED SECONDS CHANGE SHORTENS
+//     play GRAPH SEED CYCLES SECONDS CHANGE SHORTENS
 //
-// CHANGE chooses a change of the design, 0 for none, -1 for any. SHORTENS is for how many seconds a run is shortened; 0
-// stops after the first difference.
+// CYCLES is for how many clock cycles all runs are played, SECONDS for how long at most; 0 is no limit. CHANGE chooses
+// a change of the design, 0 for none, -1 for any. SHORTENS is for how many clock cycles runs are played again to
+// shorten the one that differs; 0 stops after the first difference.
 
 #include <cstdio>
 #include <cstdlib>
 #include <exception>
-#include <limits>
 #include <string>
 
 #include "shortening.h"
@@ -51,24 +51,24 @@ void print_counts(const Playing &playing, double seconds) {
     std::printf("\n");
 }
 
-void shorten(const Graph &graph, const Choice &choice, const Found &found, double seconds) {
+void shorten(const Graph &graph, const Choice &choice, const Found &found, std::int64_t cycles) {
     const double begun = now_in_seconds();
     const Run recorded = Playing(graph, choice).recorded(found);
     Shortening shortening(graph, choice.change, recorded);
     if (!shortening.begin()) throw std::runtime_error("the run that was recorded has no difference");
     const std::size_t before = shortening.run().rows.size();
-    shortening.shorten(seconds);
+    const bool is_done = shortening.shorten(cycles);
     const Run &run = shortening.run();
-    std::printf("shortened %zu %zu %.3f %d %d\n", before, run.rows.size(), now_in_seconds() - begun, run.is_queued,
-                shortening.needs_start());
+    std::printf("shortened %zu %zu %.3f %d %d %d\n", before, run.rows.size(), now_in_seconds() - begun, run.is_queued,
+                shortening.needs_start(), is_done);
     print_run(graph, choice.change, run);
 }
 
-void play(const std::string &path, const Choice &choice, double seconds, double shortens) {
+void play(const std::string &path, const Choice &choice, const Limit &limit, std::int64_t shortens) {
     const Graph graph(path);
     Playing playing(graph, choice);
     const double begun = now_in_seconds();
-    playing.run(seconds, std::numeric_limits<std::int64_t>::max());
+    playing.run(limit);
     print_counts(playing, now_in_seconds() - begun);
     const Found &found = playing.difference();
     if (found.lane < 0) return;
@@ -79,13 +79,16 @@ void play(const std::string &path, const Choice &choice, double seconds, double 
 }  // namespace play
 
 int main(int count, char **words) {
-    if (count != 6) {
-        std::fprintf(stderr, "usage: play GRAPH SEED SECONDS CHANGE SHORTENS\n");
+    if (count != 7) {
+        std::fprintf(stderr, "usage: play GRAPH SEED CYCLES SECONDS CHANGE SHORTENS\n");
         return 2;
     }
     try {
-        const play::Choice choice{std::strtoull(words[2], nullptr, 10), std::atoi(words[4])};
-        play::play(words[1], choice, std::atof(words[3]), std::atof(words[5]));
+        const play::Choice choice{std::strtoull(words[2], nullptr, 10), std::atoi(words[5])};
+        play::Limit limit;
+        if (const std::int64_t cycles = std::atoll(words[3])) limit.cycles = cycles;
+        if (const double seconds = std::atof(words[4]); seconds > 0) limit.seconds = seconds;
+        play::play(words[1], choice, limit, std::atoll(words[6]));
     } catch (const std::exception &fault) {
         std::fprintf(stderr, "%s\n", fault.what());
         return 3;

@@ -4,6 +4,7 @@
 #include <chrono>
 #include <cstdint>
 #include <functional>
+#include <limits>
 #include <utility>
 #include <vector>
 
@@ -21,6 +22,12 @@ inline double now_in_seconds() {
 struct Found {
     std::int64_t cycle = -1;
     int lane = -1;
+};
+
+// How far is played if nothing differs. Where a number of cycles ends it, the result depends on the seed alone.
+struct Limit {
+    std::int64_t cycles = std::numeric_limits<std::int64_t>::max();
+    double seconds = std::numeric_limits<double>::infinity();
 };
 
 // What is played: which change of the design is chosen (0: none; -1: any, another one in each lane), and the seed.
@@ -50,10 +57,10 @@ public:
         wiring.choose_change(program, choice.change, dice);
     }
 
-    // Plays until outputs differ, or for some time or number of clock cycles.
-    void run(double seconds, std::int64_t cycles) {
-        const double end = now_in_seconds() + seconds;
-        while (found.lane < 0 && cycle < cycles && ((cycle & 63) || now_in_seconds() < end)) step();
+    // Plays until outputs differ, or the limit is reached.
+    void run(const Limit &limit) {
+        const double end = now_in_seconds() + limit.seconds;
+        while (found.lane < 0 && cycle < limit.cycles && ((cycle & 63) || now_in_seconds() < end)) step();
     }
     // Is called before each clock edge, with the lanes whose state a run has reached, and the clock cycle.
     using Watch = std::function<void(const Program &, const Lanes &, std::int64_t)>;

@@ -107,9 +107,13 @@ public:
             each(differ, [&](int lane) { found[lane] = at[lane]; });
             open &= ~differ;
             clock();
+            played++;
         }
         return found;
     }
+
+    // For how many clock cycles it has looked for differences.
+    std::int64_t cycles() const { return played; }
 
     // Calls with each row of a run, whether outputs differ or not, before its clock edge.
     template <typename Call>
@@ -242,6 +246,7 @@ private:
     Lanes reset = none(), integrating = none(), enable = none(), dominant = none(), forced = none();
     Lanes asks = none(), low = none(), high = none();
     std::vector<Lanes> taken;
+    std::int64_t played = 0;
 };
 
 }  // namespace play

@@ -37,10 +37,12 @@ public:
     // Whether the run, played again from its reset, has a difference; it ends there then.
     bool begin() { return take({best}); }
 
-    void shorten(double seconds) {
-        const double end = now_in_seconds() + seconds;
+    // Shortens it until nothing more is found, or until runs were played again for some clock cycles; then it is false.
+    bool shorten(std::int64_t cycles) {
         make_plain();
-        for (int idle = 0; idle < IDLE && now_in_seconds() < end;) idle = improve() ? 0 : idle + 1;
+        int idle = 0;
+        while (idle < IDLE && replay.cycles() < cycles) idle = improve() ? 0 : idle + 1;
+        return idle == IDLE;
     }
 
     const Run &run() const { return best; }
