@@ -195,12 +195,12 @@ const REGISTERS: &[Word<'static>] = &[
     Word {
         name: "pending",
         places: 4,
-        meaning: "how many own overload frames are requested",
+        meaning: "how many own overload frames are still requested: each that starts uses up one",
     },
     Word {
         name: "used",
         places: 4,
-        meaning: "how many of these it has used since the last frame",
+        meaning: "how many own overload frames have started since the last start of frame",
     },
     Word {
         name: "tec_count",
