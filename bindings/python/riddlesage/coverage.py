@@ -261,7 +261,7 @@ def _add_transcripts(file: str, known: list[Case], coverage: Coverage) -> int:
         if difference:
             differing += 1
             print(f"differs {case.name} at {difference}")
-    print(f"{len(pairs)} transcripts, {differing} differ")
+    print(f"transcripts {len(pairs)} differing {differing}")
     return 1 if differing else 0
 
 

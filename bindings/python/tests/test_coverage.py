@@ -2,6 +2,7 @@
 
 from __future__ import annotations
 
+import dataclasses
 import doctest
 import importlib
 import io
@@ -10,7 +11,7 @@ import pathlib
 import re
 import sys
 import xml.etree.ElementTree as ElementTree
-from typing import TYPE_CHECKING
+from typing import TYPE_CHECKING, Any
 
 import pytest
 import riddlesage.coverage
@@ -99,7 +100,7 @@ def test_transcripts_that_differ() -> None:
     assert transcript.events and transcript.counters and transcript.end
     drove, events, counters = transcript.drove, transcript.events, transcript.counters
     time, (changed, tec, rec) = events[0][0], counters[0]
-    differing = [
+    differing: list[tuple[dict[str, Any], int, str]] = [
         ({"drove": inverted(drove, 253)}, 253, "drove 0 not 1"),
         ({"drove": drove[:9]}, 9, "drove nothing"),
         ({"drove": inverted(drove, 0), "events": [(0, "lost")]}, 0, "drove 0 not 1"),
@@ -110,8 +111,7 @@ def test_transcripts_that_differ() -> None:
     for fields, at, text in differing:
         before, beside = Coverage(), Coverage()
         before.play(case, at)
-        changed_one = kit("documents").Transcript(**{**vars(transcript), **fields})
-        assert beside.play_beside(case, changed_one) == f"{at}: {text}"
+        assert beside.play_beside(case, dataclasses.replace(transcript, **fields)) == f"{at}: {text}"
         assert beside.counts == before.counts
 
 
@@ -177,13 +177,13 @@ def test_transcripts(tmp_path: pathlib.Path, capsys: pytest.CaptureFixture[str])
     log.write_text("coverage 3 Own overload frames, receiver passive\n")
     assert main(["--transcripts", str(SUSPEND), str(log)]) == 0
     lines = capsys.readouterr().out.splitlines()
-    assert lines[0] == "5 transcripts, 0 differ"
+    assert lines[0] == "transcripts 5 differing 0"
     assert "coverage 3 Own overload frames, receiver passive" in lines
     wrong = tmp_path / "wrong.toml"
     wrong.write_text('[[transcript]]\nversion = 1\ncase = "suspend-after-error"\ndrove = ["1*9"]\n')
     assert main(["--transcripts", str(wrong)]) == 1
     lines = capsys.readouterr().out.splitlines()
-    assert lines[:2] == ["differs suspend-after-error at 9: drove nothing", "1 transcripts, 1 differ"]
+    assert lines[:2] == ["differs suspend-after-error at 9: drove nothing", "transcripts 1 differing 1"]
 
 
 def test_cases_of_transcripts(monkeypatch: pytest.MonkeyPatch, capsys: pytest.CaptureFixture[str]) -> None:
@@ -195,7 +195,7 @@ def test_cases_of_transcripts(monkeypatch: pytest.MonkeyPatch, capsys: pytest.Ca
     text = f"{documents.write_case(case)}\n{documents.write_transcript(transcript)}"
     monkeypatch.setattr(sys, "stdin", io.TextIOWrapper(io.BytesIO(text.encode())))
     assert main(["--transcripts", "-"]) == 0
-    assert capsys.readouterr().out.startswith("1 transcripts, 0 differ\n")
+    assert capsys.readouterr().out.startswith("transcripts 1 differing 0\n")
 
 
 def test_wrong_use(tmp_path: pathlib.Path, capsys: pytest.CaptureFixture[str]) -> None:
