@@ -241,7 +241,7 @@ def _read_transcripts(file: str, known: list[Case]) -> list[tuple[Case, Transcri
     try:
         cases, transcripts = documents.read_document(content.decode("utf-8"), known)
     except UnicodeDecodeError:
-        raise _NotReadError(f"{_shown(file)}: it is not in UTF-8") from None
+        raise _NotReadError(f"{_shown(file)}: {documents.DocumentFault('toml')}") from None
     except documents.DocumentFault as refused:
         hint = "; --cases names where its case is" if refused.place.endswith("].case") else ""
         raise _NotReadError(f"{_shown(file)}: {refused}{hint}") from None

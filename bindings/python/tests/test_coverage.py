@@ -9,6 +9,8 @@ import io
 import os
 import pathlib
 import re
+import shutil
+import subprocess
 import sys
 import xml.etree.ElementTree as ElementTree
 from typing import TYPE_CHECKING, Any
@@ -186,6 +188,22 @@ def test_transcripts(tmp_path: pathlib.Path, capsys: pytest.CaptureFixture[str])
     assert lines[:2] == ["differs suspend-after-error at 9: drove nothing", "transcripts 1 differing 1"]
 
 
+@pytest.mark.skipif(not shutil.which("cc"), reason="cc is not installed")
+def test_the_page(tmp_path: pathlib.Path, capsys: pytest.CaptureFixture[str]) -> None:
+    """The commands of docs/COVERAGE.md print its lines, with the mutant of conformance/README.md."""
+    page = (TOP / "docs" / "COVERAGE.md").read_text("utf-8")
+    block = re.search(r"## From transcripts\n\n((?:    .*\n)+)", page)
+    assert block
+    play, _, *shown = [line[4:] for line in block[1].splitlines()]
+    mine = shutil.copytree(TOP / "conformance" / "adapters" / "controller", tmp_path / "mine")
+    build = f"sed -i '/take_suspend/,/^}}/s/8/7/' {mine}/controller.c && cc -std=c99 -o {tmp_path}/adapter {mine}/*.c"
+    for command in (build, play.replace("$ ", "").replace("../", f"{tmp_path}/")):
+        subprocess.run(command, shell=True, check=True, cwd=TOP, capture_output=True)
+    assert main(["--transcripts", str(tmp_path / "transcripts.toml")]) == 1
+    printed = capsys.readouterr().out.splitlines()
+    assert printed[:4] + ["..", printed[-1]] == shown
+
+
 def test_cases_of_transcripts(monkeypatch: pytest.MonkeyPatch, capsys: pytest.CaptureFixture[str]) -> None:
     """A document with cases and transcripts, as `canhold judge` reads it, on standard input."""
     case, transcript = suspended()
@@ -205,6 +223,9 @@ def test_wrong_use(tmp_path: pathlib.Path, capsys: pytest.CaptureFixture[str]) -
     assert main([str(log)]) == 1
     assert main(["--cases", str(log)]) == 2
     assert "P2 toml" in capsys.readouterr().err
+    log.write_bytes(b"\xff")
+    assert main(["--cases", str(log)]) == 2
+    assert capsys.readouterr().err == f"{log}: P2 toml: must be a TOML document in UTF-8\n"
     with pytest.raises(SystemExit):
         main([])
 
@@ -213,7 +234,7 @@ def test_wrong_use(tmp_path: pathlib.Path, capsys: pytest.CaptureFixture[str]) -
     ("content", "status", "text"),
     [
         (b"", 1, "it has no transcripts"),
-        (b"\xff", 2, "it is not in UTF-8"),
+        (b"\xff", 2, "P2 toml: must be a TOML document in UTF-8"),
         (b"[[transcript", 2, "P2 toml: must be a TOML document in UTF-8"),
         (b"transcript = " + b"[" * 20000, 2, "P2 toml: must be a TOML document in UTF-8"),
         (b"[[transcript]]\nversion = 2\n", 2, "P2 transcript[0].version: must be 1"),
