@@ -38,7 +38,7 @@ enum rule {
 /* The role and error state before a bit time. */
 enum column { TRANSMITTER_ACTIVE, TRANSMITTER_PASSIVE, RECEIVER_ACTIVE, RECEIVER_PASSIVE, NO_COLUMN };
 
-/* A combination that can occur, and a short case of the conformance kit in which it does, or no text. */
+/* A combination that can occur, and a short case of the conformance kit in which it does. */
 struct item {
   uint8_t rule, column;
   const char *name, *reached_by;
@@ -92,7 +92,7 @@ static const struct item items[RIDDLESAGE_COVERAGE_ITEMS] = {
   RA(FRAME_VALIDATION, "Frame validation", "rx-dlc-remote-15"),
   RP(FRAME_VALIDATION, "Frame validation", "passive-receiver-frame"),
   RA(DOMINANT_LAST_LEVEL, "Dominant last level", "overload-last-eof-standard"),
-  RP(DOMINANT_LAST_LEVEL, "Dominant last level", ""),
+  RP(DOMINANT_LAST_LEVEL, "Dominant last level", "passive-receiver-last-eof"),
   TA(ERROR_FLAGS, "Error flags", "tx-bit-error-recessive-sof"),
   TP(ERROR_FLAGS, "Error flags", "passive-flag-tx-recessive"),
   RA(ERROR_FLAGS, "Error flags", "rx-stuff-error-extended-base-dominant"),
@@ -100,7 +100,7 @@ static const struct item items[RIDDLESAGE_COVERAGE_ITEMS] = {
   TA(ERROR_IN_AN_OWN_FLAG, "Error in an own flag", "count-tx-overload-flag-bit"),
   TP(ERROR_IN_AN_OWN_FLAG, "Error in an own flag", "bus-off-limit-255-by-overload-flag"),
   RA(ERROR_IN_AN_OWN_FLAG, "Error in an own flag", "error-flag-bit-error-rx-1"),
-  RP(ERROR_IN_AN_OWN_FLAG, "Error in an own flag", ""),
+  RP(ERROR_IN_AN_OWN_FLAG, "Error in an own flag", "passive-receiver-overload-flag-bit"),
   TA(AFTER_A_FLAG, "After a flag", "tx-bit-error-recessive-sof"),
   TP(AFTER_A_FLAG, "After a flag", "passive-limit-tec-as-receiver"),
   RA(AFTER_A_FLAG, "After a flag", "rx-stuff-error-extended-base-dominant"),
@@ -114,7 +114,7 @@ static const struct item items[RIDDLESAGE_COVERAGE_ITEMS] = {
   RA(OVERLOAD_FLAGS, "Overload flags", "overload-own-after-an-error"),
   RP(OVERLOAD_FLAGS, "Overload flags", "passive-flag-overload-rx-delimiter-8"),
   RA(OWN_OVERLOAD_FRAMES, "Own overload frames", "overload-own-after-an-error"),
-  RP(OWN_OVERLOAD_FRAMES, "Own overload frames", ""),
+  RP(OWN_OVERLOAD_FRAMES, "Own overload frames", "passive-receiver-own-overload"),
 };
 /* clang-format on */
 
@@ -262,7 +262,6 @@ EXPORT riddlesage_status riddlesage_coverage_line(const riddlesage_coverage *cov
   if (coverage->counts[item] > 0)
     snprintf(line, RIDDLESAGE_COVERAGE_LINE, "coverage %llu %s", (unsigned long long)coverage->counts[item], of->name);
   else
-    snprintf(line, RIDDLESAGE_COVERAGE_LINE, "coverage 0 %s; %s%s reaches it", of->name,
-             *of->reached_by != '\0' ? "case " : "no case of the kit", of->reached_by);
+    snprintf(line, RIDDLESAGE_COVERAGE_LINE, "coverage 0 %s; case %s reaches it", of->name, of->reached_by);
   return RIDDLESAGE_OK;
 }

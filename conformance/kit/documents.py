@@ -280,7 +280,7 @@ def read_document(text: str, known: Iterable[Case] = ()) -> tuple[list[Case], li
     """
     try:
         document = loads(text)
-    except ValueError:
+    except (ValueError, RecursionError):
         raise DocumentFault("toml") from None
     _require(all(key in ("case", "transcript") for key in document), "key")
     for key in ("case", "transcript"):

@@ -27,10 +27,11 @@ def read_library(paths: Iterable[str]) -> tuple[list[Case], dict[str, Transcript
     cases: dict[str, Case] = {}
     transcripts: dict[str, Transcript] = {}
     for file in [file for path in paths for file in _files(path)]:
-        with open(file, encoding="utf-8") as opened:
-            text = opened.read()
         try:
-            more, recorded = read_document(text, cases.values())
+            with open(file, encoding="utf-8") as opened:
+                more, recorded = read_document(opened.read(), cases.values())
+        except UnicodeDecodeError:
+            raise ValueError(f"{file}: {DocumentFault('toml')}") from None
         except DocumentFault as fault:
             fault.args = (f"{file}: {fault}",)
             raise

@@ -81,6 +81,7 @@ class Documents(unittest.TestCase):
 
     def test_the_first_wrong_field_is_reported(self) -> None:
         self.assertEqual(self.place("case = ["), "toml")
+        self.assertEqual(self.place("case = " + "[" * 20000), "toml")
         self.assertEqual(self.place("other = 1"), "key")
         self.assertEqual(self.place(CASE.replace("version = 1", "version = 2")), "case[0].version")
         self.assertEqual(self.place(CASE.replace("bits = 20", "bits = 21")), "case[0].tester")

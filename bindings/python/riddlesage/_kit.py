@@ -1,4 +1,4 @@
-"""The conformance kit, which is in this package or in the repository, or where RIDDLESAGE_KIT says."""
+"""The conformance kit, which is in this package or in the repository, or where RIDDLESAGE_KIT says; and playing it."""
 
 from __future__ import annotations
 
@@ -13,13 +13,28 @@ from typing import TYPE_CHECKING, Any, Protocol
 
 from riddlesage._bus import Device
 from riddlesage._frames import Frame
-from riddlesage._ports import Reported
+from riddlesage._ports import Event, Reported, State
 
 if TYPE_CHECKING:
-    from kit.documents import Case
+    from kit.documents import Case, Transcript
 
 # The kit's package has this name, so that a project may have a package `kit` of its own.
 _PACKAGE = "riddlesage_kit"
+
+_EVENTS = {
+    Event.SENT: "sent",
+    Event.RECEIVED: "received",
+    Event.LOST: "lost",
+    Event.BIT_ERROR: "bit error",
+    Event.STUFF_ERROR: "stuff error",
+    Event.CRC_ERROR: "crc error",
+    Event.FORM_ERROR: "form error",
+    Event.ACK_ERROR: "ack error",
+    Event.OVERLOAD: "overload",
+    Event.WENT_OFF: "went off",
+    Event.RECOVERED: "recovered",
+}
+_STATES = {State.ERROR_ACTIVE: "active", State.ERROR_PASSIVE: "passive", State.BUS_OFF: "off"}
 
 
 class KitNotFoundError(Exception):
@@ -68,3 +83,25 @@ def played(case: Case, device: Holding) -> Iterator[tuple[int, int, Reported | N
         driven = device.drive()
         # with `f` it samples a recessive level, whatever it drives
         yield time, int(driven), device.sample(1 if tester == "f" else driven & int(tester))
+
+
+def _event_text(reported: Reported) -> str:
+    """The text of an event, in the words of the kit."""
+    return _EVENTS[reported.event] + (f" {reported.frame.text}" if reported.frame else "")
+
+
+def recorded(case: Case, device: Holding) -> Transcript:
+    """The transcript of a new controller in a case, with the final state if it has `state` and `counters`."""
+    drove: list[str] = []
+    events: list[tuple[int, str]] = []
+    for time, driven, event in played(case, device):
+        drove.append(str(driven))
+        if event is not None:
+            events.append((time, _event_text(event)))
+    state, counters = getattr(device, "state", None), getattr(device, "counters", None)
+    end = None
+    if state is not None and counters is not None:
+        transmit, receive = counters
+        end = (_STATES[State(state)], int(transmit), int(receive))
+    given: Transcript = kit("documents").Transcript(case.name, "".join(drove), events or None, None, end)
+    return given

@@ -1,9 +1,10 @@
 r"""Rule coverage: which rules of docs/ACCESS.md a port has applied, in which role and error state.
 
-    python3 -m riddlesage.coverage LOG... [--cases PATH]... [--junit FILE]
+    python3 -m riddlesage.coverage [LOG]... [--transcripts FILE]... [--cases PATH]... [--junit FILE]
 
 Reads the lines that the monitors of the hardware description languages print with COVERAGE (and pytest with
---can-coverage), adds those of all runs, and prints what was reached and what was not.
+--can-coverage), and the transcripts of a controller in cases of the conformance kit. It adds the coverage of all, and
+prints what was reached and what was not.
 
     >>> from riddlesage import Frame, Port
     >>> from riddlesage.coverage import Coverage
@@ -21,6 +22,7 @@ from __future__ import annotations
 
 import argparse
 import ctypes
+import itertools
 import pathlib
 import re
 import sys
@@ -29,12 +31,12 @@ from typing import TYPE_CHECKING
 
 from riddlesage._commands import end_with, opened, require_library
 from riddlesage._frames import Refused, Status, demand, frame_of
-from riddlesage._kit import KitNotFoundError, kit, played
+from riddlesage._kit import KitNotFoundError, kit, played, recorded
 from riddlesage._library import PlainFrame, PlainPort, lib
 from riddlesage._ports import Event, Port, Reported
 
 if TYPE_CHECKING:
-    from kit.documents import Case
+    from kit.documents import Case, Transcript
 
 if __name__ == "__main__":
     require_library()  # which is asked for names as soon as this module is loaded
@@ -66,8 +68,8 @@ for _function in (lib.riddlesage_coverage_name, lib.riddlesage_coverage_case):
     _function.argtypes = (ctypes.c_size_t,)
     _function.restype = ctypes.c_char_p
 
-# Each combination of rule, role and error state, and a case of the conformance kit in which it occurs, or no text. A
-# case that the standard set does not have is in the long one.
+# Each combination of rule, role and error state, and a case of the conformance kit in which it occurs. A case that the
+# standard set does not have is in the long one.
 CASES = {
     lib.riddlesage_coverage_name(item).decode("ascii"): lib.riddlesage_coverage_case(item).decode("ascii")
     for item in range(ITEMS)
@@ -92,10 +94,27 @@ class Coverage:
         heard = frame_of(frame) if code in (Event.SENT, Event.RECEIVED) else None
         return Reported(code, heard) if code else None
 
-    def play(self, case: Case) -> None:
-        """Plays a case of the conformance kit to a new port, and counts."""
-        for _ in played(case, _CoveredPort(self, case.start == "joining")):
+    def play(self, case: Case, bit_times: int | None = None) -> None:
+        """Plays a case of the conformance kit, or its first bit times, to a new port, and counts."""
+        for _ in itertools.islice(played(case, _CoveredPort(self, case)), bit_times):
             pass
+
+    def play_beside(self, case: Case, transcript: Transcript) -> str | None:
+        """Plays a case to a new port beside a controller's transcript, and counts as long as both agree.
+
+        Returns the first difference, such as `253: drove 0 not 1`, or None.
+        """
+        counted = Coverage()
+        expected = recorded(case, _CoveredPort(counted, case))
+        if transcript.counters is not None:
+            expected.counters = _counters(case)
+        found = kit("comparing").differences(transcript, expected)
+        if found:
+            counted = Coverage()
+            counted.play(case, found[0][0])
+        for name, count in counted.counts.items():
+            self.add(name, count)
+        return f"{found[0][0]}: {found[0][2]}" if found else None
 
     def add(self, name: str, count: int) -> None:
         """Adds to the count of a combination. One that does not exist raises ValueError."""
@@ -115,13 +134,13 @@ class Coverage:
 
     @property
     def missing(self) -> dict[str, str]:
-        """The combinations that have not, each with a case of the conformance kit in which it occurs, or no text."""
+        """The combinations that have not, each with a case of the conformance kit in which it occurs."""
         return {name: CASES[name] for name, count in self.counts.items() if not count}
 
     def lines(self) -> Iterator[str]:
         """The report as text: a line for each combination, and their number."""
         for name, count in self.counts.items():
-            yield f"coverage {count} {name}" + ("" if count else f"; {_reaching(name)}")
+            yield f"coverage {count} {name}" + ("" if count else f"; case {CASES[name]} reaches it")
         yield f"reached {len(self.reached)} of {ITEMS}"
 
     def junit(self) -> str:
@@ -133,26 +152,27 @@ class Coverage:
         results = []
         for name, count in self.counts.items():
             rule, _, column = name.partition(", ")
-            kind, message = (writer.PASS, "") if count else (writer.SKIP, f"not reached; {_reaching(name)}")
+            kind, message = (writer.PASS, "") if count else (writer.SKIP, f"not reached; case {CASES[name]} reaches it")
             results.append(writer.Result(rule, column or rule, kind, message))
         text: str = writer.junit_text("rule coverage", results)
         return text
 
 
-def _reaching(name: str) -> str:
-    """Which case reaches a combination."""
-    return f"case {CASES[name]} reaches it" if CASES[name] else "no case of the kit reaches it"
+class _CoveredPort(Port):
+    """A new port for a case, whose bit times are counted."""
 
-
-class _CoveredPort:
-    """A port whose bit times are counted."""
-
-    def __init__(self, coverage: Coverage, joining: bool) -> None:
-        self._coverage, self._port = coverage, Port(_MOST_QUEUED, 0, joining=joining)
-        self.offer, self.hold, self.drive = self._port.offer, self._port.hold, self._port.drive
+    def __init__(self, coverage: Coverage, case: Case) -> None:
+        super().__init__(_MOST_QUEUED, 0, joining=case.start == "joining")
+        self._coverage = coverage
 
     def sample(self, level: int) -> Reported | None:
-        return self._coverage.sample(self._port, level)
+        return self._coverage.sample(self, level)
+
+
+def _counters(case: Case) -> list[tuple[int, int, int]]:
+    """TEC and REC of a port after each bit time of a case."""
+    port = Port(_MOST_QUEUED, 0, joining=case.start == "joining")
+    return [(time, *port.counters) for time, _, _ in played(case, port)]
 
 
 def read_lines(lines: Iterable[str], coverage: Coverage) -> int:
@@ -169,51 +189,107 @@ def read_lines(lines: Iterable[str], coverage: Coverage) -> int:
 def _arguments(words: Sequence[str] | None) -> argparse.Namespace:
     parser = argparse.ArgumentParser(
         prog="python3 -m riddlesage.coverage",
-        description="Adds the rule coverage that logs of test benches report, and prints what was not reached.",
-        epilog="Exit status: 1 if a log reports no coverage, 2 if a file cannot be read or written.",
+        description="Adds the rule coverage of logs, transcripts and cases, and prints what was not reached.",
+        epilog="Exit status: 1 if a log reports no coverage, if a file has no transcripts or one that differs from the "
+        "golden model; 2 if a file cannot be read or written.",
     )
-    logs = "the output of a simulation or of pytest; - is standard input"
-    parser.add_argument("logs", metavar="LOG", nargs="*", help=logs)
-    cases = "also play the cases of these files and folders to a port; `kit` is the standard set"
-    parser.add_argument("--cases", metavar="PATH", action="append", default=[], help=cases)
-    parser.add_argument("--junit", metavar="FILE", type=pathlib.Path, help="also write the report as JUnit XML")
+    add = parser.add_argument
+    add("logs", metavar="LOG", nargs="*", help="the output of a simulation or of pytest; - is standard input")
+    transcripts = "what a controller did in cases of the conformance kit, as `conformance/run --transcripts` writes it"
+    add("--transcripts", metavar="FILE", action="append", default=[], help=transcripts)
+    cases = "play the cases of these files and folders to a port; `kit` is the standard set. With --transcripts: where "
+    cases += "their cases are, if they are not in FILE and not in the standard set"
+    add("--cases", metavar="PATH", action="append", default=[], help=cases)
+    add("--junit", metavar="FILE", type=pathlib.Path, help="also write the report as JUnit XML")
     options = parser.parse_args(words)
-    if not options.logs and not options.cases:
-        parser.error("name a LOG, or cases with --cases")
+    if not options.logs and not options.transcripts and not options.cases:
+        parser.error("name a LOG, transcripts with --transcripts, or cases with --cases")
     return options
 
 
 class _NotReadError(Exception):
-    """Cases that cannot be read."""
+    """Cases or transcripts that cannot be read."""
 
 
-def _play_cases(paths: Sequence[str], coverage: Coverage) -> None:
-    """Plays the cases of files and folders. Raises _NotReadError."""
+def _shown(file: str) -> str:
+    return "standard input" if file == "-" else file
+
+
+def _add_log(log: str, coverage: Coverage) -> int:
+    """Adds the lines of a log. Returns the exit status."""
+    with opened(log) as file:
+        found = read_lines((line.decode("utf-8", "replace") for line in file), coverage)
+    if not found:
+        print(f"{_shown(log)}: it has no lines of coverage", file=sys.stderr)
+    return 0 if found else 1
+
+
+def _read_cases(paths: Sequence[str]) -> list[Case]:
+    """The cases of files and folders. Raises _NotReadError."""
     try:
         library, fault = kit("library"), kit("documents").DocumentFault
     except KitNotFoundError as missing:
         raise _NotReadError(str(missing)) from None
     try:
-        cases, _ = library.read_library([library.FOLDER if path == "kit" else path for path in paths])
+        cases: list[Case] = library.read_library([library.FOLDER if path == "kit" else path for path in paths])[0]
     except (ValueError, fault) as refused:
         raise _NotReadError(str(refused)) from None
-    for case in cases:
-        coverage.play(case)
+    return cases
+
+
+def _read_transcripts(file: str, known: list[Case]) -> list[tuple[Case, Transcript]]:
+    """The transcripts of a file, each with its case: one of the file, or one that is known. Raises _NotReadError."""
+    documents = kit("documents")
+    with opened(file) as given:
+        content = given.read()
+    try:
+        cases, transcripts = documents.read_document(content.decode("utf-8"), known)
+    except UnicodeDecodeError:
+        raise _NotReadError(f"{_shown(file)}: {documents.DocumentFault('toml')}") from None
+    except documents.DocumentFault as refused:
+        hint = "; --cases names where its case is" if refused.place.endswith("].case") else ""
+        raise _NotReadError(f"{_shown(file)}: {refused}{hint}") from None
+    by_name = {case.name: case for case in [*known, *cases]}
+    return [(by_name[transcript.case], transcript) for transcript in transcripts]
+
+
+def _add_transcripts(file: str, known: list[Case], coverage: Coverage) -> int:
+    """Adds the transcripts of a file, and prints where they differ. Returns the exit status."""
+    pairs = _read_transcripts(file, known)
+    if not pairs:
+        print(f"{_shown(file)}: it has no transcripts", file=sys.stderr)
+        return 1
+    differing = 0
+    for case, transcript in pairs:
+        difference = coverage.play_beside(case, transcript)
+        if difference:
+            differing += 1
+            print(f"differs {case.name} at {difference}")
+    print(f"transcripts {len(pairs)} differing {differing}")
+    return 1 if differing else 0
+
+
+def _add_all(options: argparse.Namespace, coverage: Coverage) -> int:
+    """Adds what the arguments name. Returns the exit status. Raises _NotReadError."""
+    status = 0
+    for log in options.logs:
+        status |= _add_log(log, coverage)
+    if options.transcripts:
+        known = _read_cases(options.cases or ["kit"])
+        for file in options.transcripts:
+            status |= _add_transcripts(file, known, coverage)
+    elif options.cases:
+        for case in _read_cases(options.cases):
+            coverage.play(case)
+    return status
 
 
 def main(words: Sequence[str] | None = None) -> int:
     """Prints the report. Returns the exit status."""
     options = _arguments(words)
-    coverage, status = Coverage(), 0
-    for log in options.logs:
-        with opened(log) as file:
-            found = read_lines((line.decode("utf-8", "replace") for line in file), coverage)
-        if not found:
-            print(f"{'standard input' if log == '-' else log}: it has no lines of coverage", file=sys.stderr)
-            status = 1
+    coverage = Coverage()
     try:
-        if options.cases:
-            _play_cases(options.cases, coverage)
+        status = _add_all(options, coverage)
     except _NotReadError as refused:
         print(refused, file=sys.stderr)
         return 2

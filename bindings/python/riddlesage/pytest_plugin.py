@@ -20,8 +20,8 @@ from typing import TYPE_CHECKING, Any, cast
 
 import pytest
 
-from riddlesage import Device, Event, Reported, State
-from riddlesage._kit import Holding, KitNotFoundError, kit, played
+from riddlesage import Device
+from riddlesage._kit import Holding, KitNotFoundError, kit, recorded
 
 if TYPE_CHECKING:
     from kit.documents import Case, Transcript
@@ -31,21 +31,6 @@ if TYPE_CHECKING:
 # The name of the plugin that reports rule coverage.
 _COVERAGE = "riddlesage-coverage"
 
-_EVENTS = {
-    Event.SENT: "sent",
-    Event.RECEIVED: "received",
-    Event.LOST: "lost",
-    Event.BIT_ERROR: "bit error",
-    Event.STUFF_ERROR: "stuff error",
-    Event.CRC_ERROR: "crc error",
-    Event.FORM_ERROR: "form error",
-    Event.ACK_ERROR: "ack error",
-    Event.OVERLOAD: "overload",
-    Event.WENT_OFF: "went off",
-    Event.RECOVERED: "recovered",
-}
-_STATES = {State.ERROR_ACTIVE: "active", State.ERROR_PASSIVE: "passive", State.BUS_OFF: "off"}
-
 
 def _kit(module: str) -> Any:
     """A module of the kit."""
@@ -53,11 +38,6 @@ def _kit(module: str) -> Any:
         return kit(module)
     except KitNotFoundError as missing:
         raise pytest.UsageError(str(missing)) from None
-
-
-def _event_text(reported: Reported) -> str:
-    """The text of an event, in the words of the kit."""
-    return _EVENTS[reported.event] + (f" {reported.frame.text}" if reported.frame else "")
 
 
 class CanCase:
@@ -95,20 +75,9 @@ class CanCase:
 
     def _play(self, device: Device) -> Transcript:
         """The transcript of the device in the case."""
-        drove, events = "", []
         if self._coverage:
             self._coverage.play(self._case)
-        for time, driven, event in played(self._case, cast(Holding, device)):
-            drove += str(driven)
-            if event is not None:
-                events.append((time, _event_text(event)))
-        state, counters = getattr(device, "state", None), getattr(device, "counters", None)
-        end = None
-        if state is not None and counters is not None:
-            transmit, receive = counters
-            end = (_STATES[State(state)], int(transmit), int(receive))
-        given: Transcript = _kit("documents").Transcript(self.name, drove, events or None, None, end)
-        return given
+        return recorded(self._case, cast(Holding, device))
 
 
 def pytest_addoption(parser: pytest.Parser) -> None:

@@ -221,6 +221,8 @@ def passive_receiver_family(book: Book) -> None:
         scene.play("0", "the third one dominant")
         scene.play("1" * (Frame.parse(OWN).wire().place("ack") - 1) + "0" + "1" * 8, f"listens to {OWN}")
         scene.rest(12)
+    if book.is_long:
+        _receivers_overload_frames(book)
 
 
 def _receivers_errors(book: Book) -> None:
@@ -240,6 +242,29 @@ def _receivers_errors(book: Book) -> None:
             scene.after_flag(1 if suffix == "crc-delimiter" else 0)
             scene.receive(RECEIVED)
             scene.rest(5)
+
+
+def _receivers_overload_frames(book: Book) -> None:
+    with book.case("last-eof", "the last bit of the end of frame is dominant: an active overload flag") as scene:
+        passive_receiver(scene)
+        scene.receive(RECEIVED, before=Frame.parse(RECEIVED).wire().place("eof 7"))
+        scene.play("0", "the last bit of the end of frame dominant")
+        scene.recover()
+        show_flag(scene)
+    purpose = "a bit of an overload flag is not seen: a passive error flag"
+    with book.case("overload-flag-bit", purpose, ["flag-error-once"]) as scene:
+        passive_receiver(scene)
+        scene.receive(RECEIVED)
+        scene.play("0", "the first bit of intermission dominant")
+        scene.play("11f", "bit 3 of the overload flag forced")
+        scene.recover("a passive flag, delimiter, intermission")
+        scene.receive(RECEIVED)
+        scene.rest(5)
+    with book.case("own-overload", "a requested overload frame: its flag is active", ["own-overload"]) as scene:
+        passive_receiver(scene)
+        scene.receive(RECEIVED, hold=1)
+        scene.rest(6 + 8 + 3, "an own overload frame, intermission")
+        show_flag(scene)
 
 
 @family("suspend", "after an error, a sent frame, an overload frame; TEC back to 127; nothing pending")
