@@ -789,8 +789,8 @@ template <typename Call> [[nodiscard]] Written written_for_network(const Call &c
 {
   riddlesage_wrong wrong{};
   Written out = written([&](Written &to, std::size_t *count) { return call(to, count, &wrong); });
-  out.field = wrong.field;
-  out.words = wrong.words;
+  out.field = std::data(wrong.field);
+  out.words = std::data(wrong.words);
   return out;
 }
 

@@ -31,44 +31,21 @@ from typing import TYPE_CHECKING
 from riddlesage._commands import end_with, opened
 from riddlesage._frames import Refused, Status, demand, frame_of
 from riddlesage._kit import KitNotFoundError, kit, played
-from riddlesage._library import PlainFrame, PlainPort, lib
+from riddlesage._library import COVERAGE_ITEMS, PlainCoverage, PlainFrame, lib
 from riddlesage._ports import Event, Port, Reported
 
 if TYPE_CHECKING:
     from kit.documents import Case
 
-ITEMS = 64
-# A case has at most so many frames.
+# The most frames of a case.
 _MOST_QUEUED = 256
 _LINE = re.compile(r"\bcoverage ([0-9]{1,20}) ([A-Z][A-Za-z ,]*)")
-
-
-class PlainCoverage(ctypes.Structure):
-    """A riddlesage_coverage."""
-
-    _fields_ = (("counts", ctypes.c_uint64 * ITEMS),)
-
-
-if not hasattr(lib, "riddlesage_coverage_sample"):
-    raise ImportError("libriddlesage.so is older than this package: it has no rule coverage")
-
-lib.riddlesage_coverage_sample.argtypes = (
-    ctypes.POINTER(PlainPort),
-    ctypes.POINTER(PlainCoverage),
-    ctypes.c_uint8,
-    ctypes.POINTER(ctypes.c_uint8),
-    ctypes.POINTER(PlainFrame),
-)
-lib.riddlesage_coverage_sample.restype = ctypes.c_int
-for _function in (lib.riddlesage_coverage_name, lib.riddlesage_coverage_case):
-    _function.argtypes = (ctypes.c_size_t,)
-    _function.restype = ctypes.c_char_p
 
 # Each combination of rule, role and error state, and a case of the conformance kit in which it occurs, or no text. A
 # case that the standard set does not have is in the long one.
 CASES = {
     lib.riddlesage_coverage_name(item).decode("ascii"): lib.riddlesage_coverage_case(item).decode("ascii")
-    for item in range(ITEMS)
+    for item in range(COVERAGE_ITEMS)
 }
 _NAMES = tuple(CASES)
 
@@ -120,11 +97,11 @@ class Coverage:
         """The report as text: a line for each combination, and their number."""
         for name, count in self.counts.items():
             yield f"coverage {count} {name}" + ("" if count else f"; {_reaching(name)}")
-        yield f"reached {len(self.reached)} of {ITEMS}"
+        yield f"reached {len(self.reached)} of {COVERAGE_ITEMS}"
 
     def junit(self) -> str:
         """The report as JUnit XML: a test for each combination, which is skipped if it has not occurred."""
-        counts = {"tests": str(ITEMS), "failures": "0", "errors": "0", "skipped": str(len(self.missing))}
+        counts = {"tests": str(COVERAGE_ITEMS), "failures": "0", "errors": "0", "skipped": str(len(self.missing))}
         suite = ElementTree.Element("testsuite", {"name": "rule coverage", **counts})
         for name, count in self.counts.items():
             rule, _, column = name.partition(", ")
