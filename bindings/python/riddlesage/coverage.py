@@ -37,6 +37,7 @@ from riddlesage._ports import Event, Port, Reported
 if TYPE_CHECKING:
     from kit.documents import Case
 
+ITEMS = COVERAGE_ITEMS
 # The most frames of a case.
 _MOST_QUEUED = 256
 _LINE = re.compile(r"\bcoverage ([0-9]{1,20}) ([A-Z][A-Za-z ,]*)")
@@ -45,7 +46,7 @@ _LINE = re.compile(r"\bcoverage ([0-9]{1,20}) ([A-Z][A-Za-z ,]*)")
 # case that the standard set does not have is in the long one.
 CASES = {
     lib.riddlesage_coverage_name(item).decode("ascii"): lib.riddlesage_coverage_case(item).decode("ascii")
-    for item in range(COVERAGE_ITEMS)
+    for item in range(ITEMS)
 }
 _NAMES = tuple(CASES)
 
@@ -97,11 +98,11 @@ class Coverage:
         """The report as text: a line for each combination, and their number."""
         for name, count in self.counts.items():
             yield f"coverage {count} {name}" + ("" if count else f"; {_reaching(name)}")
-        yield f"reached {len(self.reached)} of {COVERAGE_ITEMS}"
+        yield f"reached {len(self.reached)} of {ITEMS}"
 
     def junit(self) -> str:
         """The report as JUnit XML: a test for each combination, which is skipped if it has not occurred."""
-        counts = {"tests": str(COVERAGE_ITEMS), "failures": "0", "errors": "0", "skipped": str(len(self.missing))}
+        counts = {"tests": str(ITEMS), "failures": "0", "errors": "0", "skipped": str(len(self.missing))}
         suite = ElementTree.Element("testsuite", {"name": "rule coverage", **counts})
         for name, count in self.counts.items():
             rule, _, column = name.partition(", ")
