@@ -82,7 +82,7 @@ typedef enum riddlesage_status {
   RIDDLESAGE_NO_MEMORY = 4,      /**< no memory for the port, the run of a bus, an analysis, or a text */
   RIDDLESAGE_QUEUE_FULL = 5,     /**< the transmit queue is full */
   RIDDLESAGE_NO_ENTRY = 6,       /**< the log has no entry with this number */
-  RIDDLESAGE_BAD_FLAG = 7,       /**< extended or remote is neither 0 nor 1 */
+  RIDDLESAGE_BAD_FLAG = 7,       /**< extended, remote or details is neither 0 nor 1 */
   RIDDLESAGE_BAD_IDENTIFIER = 8, /**< the identifier is above 0x7ff and not extended, or above 0x1fffffff */
   RIDDLESAGE_BAD_DLC = 9,        /**< the DLC is above 15 */
   RIDDLESAGE_BAD_LEVEL = 10,     /**< a level is neither 0 nor 1 */

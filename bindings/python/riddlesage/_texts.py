@@ -161,6 +161,8 @@ def worst_case(network: str | Buffer, message: str) -> str:
     It is the output of `canplan --timeline`. If no message has this name, or its worst case is longer than a scenario
     can be, it raises Refused with the status NO_MESSAGE or TOO_LONG.
     """
+    if not isinstance(message, str):
+        raise TypeError(f"expected the name of a message, got {type(message).__name__}")
     name, wrong = message.encode("utf-8"), PlainWrong()
     with _document_at(network) as document:
         status, scenario = _written(lib.riddlesage_worst_case, (*document, name, len(name)), wrong)
