@@ -465,9 +465,9 @@ static void networks(void)
 {
   static const char network[] = "version = 1\n" MESSAGE("dlc = 0");
   static const char overload[] = "version = 1\n" MESSAGE("") "[[message]]\nframe = \"S 101 D\"\nperiod = 9";
-  static const char report[] = "network messages 1 load 0.110 rate 0\n"
-                               "S 100 D 0 longest 55 blocking 0 bound 52 deadline 500 slack 448 ok\n"
-                               "load 0.110 late 0 of 1\n";
+  static const char report[] = "network messages 1 load 0.102 rate 0\n"
+                               "S 100 D 0 longest 51 blocking 0 bound 48 deadline 500 slack 452 ok\n"
+                               "load 0.102 late 0 of 1\n";
   const size_t length = sizeof network - 1, needed = sizeof report - 1;
   unsigned flag;
 

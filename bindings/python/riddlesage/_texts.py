@@ -142,9 +142,9 @@ def plan_network(network: str | Buffer, *, details: bool = False) -> Planned:
     """Analyses a network, a TOML document, and returns an upper bound on the response time of each message.
 
         >>> from riddlesage import plan_network
-        >>> planned = plan_network("version = 1\\n[[message]]\\nframe = 'S 100 D'\\nperiod = 500")
+        >>> planned = plan_network("version = 1\\n[[message]]\\nframe = 'S 100 D'\\ndlc = 0\\nperiod = 500")
         >>> planned.report.splitlines()[-1], planned.late
-        ('load 0.264 late 0 of 1', 0)
+        ('load 0.102 late 0 of 1', 0)
 
     The report is the output of `canplan`, or of `canplan --details`. (The module `riddlesage.plan` is the command.)
     """
