@@ -85,14 +85,12 @@ def _network(file: str) -> bytes:
 
 
 def _write(text: str) -> None:
-    """Writes the output."""
+    """Writes the output. Without a buffer, which the process would try to write again when it ends."""
+    rest = memoryview(text.encode("ascii"))
     try:
-        sys.stdout.buffer.write(text.encode("ascii"))
-        sys.stdout.buffer.flush()
-    except (OSError, AttributeError) as failed:
-        if sys.stdout is not None:
-            # what is left in the buffer is lost
-            os.dup2(os.open(os.devnull, os.O_WRONLY), sys.stdout.fileno())
+        while rest:
+            rest = rest[os.write(1, rest) :]
+    except OSError as failed:
         raise _Ended(3, "P4 write: standard output could not be written") from failed
 
 
