@@ -179,7 +179,7 @@ fn the_fields_of_levels() {
     assert_eq!(marked[0], Mark { field: Field::StartOfFrame, stuffed: false });
     assert_eq!(marked[61], Mark { field: Field::EndOfFrame, stuffed: false });
     assert_eq!((marks(&[]), marks(&[Level::Recessive])), (vec![], vec![]));
-    assert_eq!(marks(&[Level::Dominant; 200]).len(), 5);
+    assert_eq!(marks(&[Level::Dominant; 200]).len(), 6);
 }
 
 #[test]
