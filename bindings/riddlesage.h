@@ -47,10 +47,9 @@
  * Memory. Only riddlesage_port_new(), riddlesage_port_idle(), riddlesage_port_joining(), riddlesage_port_copy(),
  * riddlesage_play(), and the calls that take a text or a trace allocate memory, with malloc, or with what
  * RIDDLESAGE_MALLOC of riddlesage_portable.c names. From riddlesage_play() on they free theirs before they return.
- * riddlesage_play() takes a byte for each bit time, and some for each port, offer and hit. So do riddlesage_run() and
- * riddlesage_port_times(), which takes some 20 bytes for each bit time. The calls that write a text also allocate 32
- * MiB in one block, of which they touch as much as the text needs; riddlesage_port_times() does so if the scenario is
- * wrong.
+ * riddlesage_play() and riddlesage_run() take a byte for each bit time, and some for each port, offer and hit;
+ * riddlesage_port_times() takes more for each bit time. The calls that write a text also allocate 32 MiB in one block,
+ * of which they touch as much as the text needs; riddlesage_port_times() does so if the scenario is wrong.
  */
 #ifndef RIDDLESAGE_H
 #define RIDDLESAGE_H
