@@ -39,7 +39,7 @@ struct lines {
   char bytes[RIDDLESAGE_MOST_TEXT];
 };
 
-/* What is wrong in a scenario: the number of the field, and its port or element if it has one. */
+/* What is wrong in a scenario or a network: the number of the field, and its port, message or element if it has one. */
 struct wrong {
   uint64_t number;
   uint64_t element;
@@ -48,6 +48,12 @@ struct wrong {
 } RIDDLESAGE_LAYOUT;
 
 RIDDLESAGE_INTERNAL uint8_t page_run(const char *text, size_t length, struct lines *out, struct wrong *wrong);
+RIDDLESAGE_INTERNAL uint8_t page_port_times(const char *text, size_t length, size_t port, riddlesage_port_time *times,
+                                            size_t room, uint64_t *count);
+RIDDLESAGE_INTERNAL uint8_t page_plan(const char *text, size_t length, bool details, struct lines *out, uint64_t *late,
+                                      struct wrong *wrong);
+RIDDLESAGE_INTERNAL uint8_t page_worst_case(const char *text, size_t length, const char *message,
+                                            size_t message_length, struct lines *out, struct wrong *wrong);
 RIDDLESAGE_INTERNAL uint8_t page_decode(const uint8_t *text, size_t length, struct lines *out, uint64_t *place);
 RIDDLESAGE_INTERNAL uint8_t page_decode_levels(const uint8_t *levels, size_t length, struct lines *out,
                                                uint64_t *place);

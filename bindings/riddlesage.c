@@ -320,7 +320,8 @@ EXPORT const char *riddlesage_status_name(riddlesage_status status)
     "ok",       "null pointer",   "moved",   "no port",   "no memory", "queue full", "no entry",
     "bad flag", "bad identifier", "bad dlc", "bad level", "bad count", "no levels",  "no room",
     "short",    "no start",       "stuff",   "crc",       "form",      "bad scenario", "bad byte",
-    "bad bus",  "no such port",   "bad order", "bad kind",  "bad wire",
+    "bad bus",  "no such port",   "bad order", "bad kind",  "bad wire",  "bad network", "no message",
+    "too long",
   };
   return (size_t)status < sizeof names / sizeof names[0] ? names[status] : NULL;
 }

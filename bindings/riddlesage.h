@@ -22,17 +22,17 @@
  * @endcode
  *
  * What each call does is proved in the repository that this file belongs to, for the functions of crates/can_c that
- * these calls pass their arguments to; for riddlesage_marks(), riddlesage_run(), riddlesage_decode_trace() and
- * riddlesage_decode_levels() it is crates/can_page. Not proved, only tested: this header, riddlesage.c and texts.c,
- * which check pointers and pass the arguments on, the loop of riddlesage_wire_run() over other calls, coverage.c, which
- * counts, and heap.c, which allocates memory. The library as one file of C, riddlesage_portable.c, has a translation of
- * the proved functions, which is tested, not proved.
+ * these calls pass their arguments to; for riddlesage_marks(), and for the calls that take a text or a trace, it is
+ * crates/can_page. Not proved, only tested: this header, riddlesage.c and texts.c, which check pointers and pass the
+ * arguments on, the loop of riddlesage_wire_run() over other calls, coverage.c, which counts, and heap.c, which
+ * allocates memory. The library as one file of C, riddlesage_portable.c, has a translation of the proved functions,
+ * which is tested, not proved.
  *
  * Errors. A call that can fail returns a status, named below without RIDDLESAGE_. Unless it is OK, the port is as it
- * was, and nothing has been written; riddlesage_decode(), riddlesage_run(), riddlesage_decode_trace() and
- * riddlesage_decode_levels() state their exceptions. Every argument and field may have any value: one that is out of
- * range is refused by its status. If several are wrong, the status is that of the first in the order of the arguments,
- * the port before all others.
+ * was, and nothing has been written; riddlesage_decode() and the calls that take a text or a trace state their
+ * exceptions. Every argument and field may have any value: one that is out of range is refused by its status. If
+ * several are wrong, the status is that of the first in the order of the arguments, the port before all others; a text
+ * is read last.
  *
  * Requirements on the caller:
  *
@@ -45,10 +45,11 @@
  *   and belong to no thread.
  *
  * Memory. Only riddlesage_port_new(), riddlesage_port_idle(), riddlesage_port_joining(), riddlesage_port_copy(),
- * riddlesage_play(), riddlesage_run(), riddlesage_decode_trace() and riddlesage_decode_levels() allocate memory, with
- * malloc, or with what RIDDLESAGE_MALLOC of riddlesage_portable.c names. The last four free theirs before they return:
- * a byte for each bit time, and some for each port, offer and hit. The last three also allocate 32 MiB in one block, of
- * which they touch as much as the text needs.
+ * riddlesage_play(), and the calls that take a text or a trace allocate memory, with malloc, or with what
+ * RIDDLESAGE_MALLOC of riddlesage_portable.c names. From riddlesage_play() on they free theirs before they return.
+ * riddlesage_play() and riddlesage_run() take a byte for each bit time, and some for each port, offer and hit;
+ * riddlesage_port_times() takes more for each bit time. The calls that write a text also allocate 32 MiB in one block,
+ * of which they touch as much as the text needs; riddlesage_port_times() does so if the scenario is wrong.
  */
 #ifndef RIDDLESAGE_H
 #define RIDDLESAGE_H
@@ -77,10 +78,10 @@ typedef enum riddlesage_status {
   RIDDLESAGE_NULL_POINTER = 1,   /**< a pointer is NULL that must not be */
   RIDDLESAGE_MOVED = 2,          /**< the port is a copy of another one, or was not initialised to all bytes 0 */
   RIDDLESAGE_NO_PORT = 3,        /**< no port was made there, or it was freed */
-  RIDDLESAGE_NO_MEMORY = 4,      /**< no memory for the port, the run of a bus, or a text */
+  RIDDLESAGE_NO_MEMORY = 4,      /**< no memory for the port, the run of a bus, an analysis, or a text */
   RIDDLESAGE_QUEUE_FULL = 5,     /**< the transmit queue is full */
   RIDDLESAGE_NO_ENTRY = 6,       /**< the log has no entry with this number */
-  RIDDLESAGE_BAD_FLAG = 7,       /**< extended or remote is neither 0 nor 1 */
+  RIDDLESAGE_BAD_FLAG = 7,       /**< extended, remote or details is neither 0 nor 1 */
   RIDDLESAGE_BAD_IDENTIFIER = 8, /**< the identifier is above 0x7ff and not extended, or above 0x1fffffff */
   RIDDLESAGE_BAD_DLC = 9,        /**< the DLC is above 15 */
   RIDDLESAGE_BAD_LEVEL = 10,     /**< a level is neither 0 nor 1 */
@@ -96,10 +97,13 @@ typedef enum riddlesage_status {
   RIDDLESAGE_BAD_SCENARIO = 19,  /**< the text is not a valid scenario */
   RIDDLESAGE_BAD_BYTE = 20,      /**< a byte of a trace is neither a level, nor a space, nor part of a line end */
   RIDDLESAGE_BAD_BUS = 21,       /**< a bus has no ports, more than 64, or the same one twice */
-  RIDDLESAGE_NO_SUCH_PORT = 22,  /**< an offer or a hit names no port of the bus */
+  RIDDLESAGE_NO_SUCH_PORT = 22,  /**< an offer, a hit or a number names no port of the bus or the scenario */
   RIDDLESAGE_BAD_ORDER = 23,     /**< an offer is earlier than the previous one, or a hit not above the previous one */
   RIDDLESAGE_BAD_KIND = 24,      /**< the kind of a hit is not a riddlesage_hit_kind */
-  RIDDLESAGE_BAD_WIRE = 25       /**< the fields of a wire are out of range, or it has had 2^64 - 1 bit times */
+  RIDDLESAGE_BAD_WIRE = 25,      /**< the fields of a wire are out of range, or it has had 2^64 - 1 bit times */
+  RIDDLESAGE_BAD_NETWORK = 26,   /**< the text is not a valid network */
+  RIDDLESAGE_NO_MESSAGE = 27,    /**< no message of the network has this name */
+  RIDDLESAGE_TOO_LONG = 28       /**< the worst case is longer than a scenario can be, or has no end */
 } riddlesage_status;
 
 /** Levels: the value of a bit, one byte each in every list. Dominant overrides recessive (2). */
@@ -536,8 +540,14 @@ riddlesage_status riddlesage_marks(const uint8_t *levels, size_t length, uint8_t
 /** The most bytes of a text that a call below writes. */
 enum { RIDDLESAGE_MOST_TEXT = 33554432 };
 
-/** The capacity for the name of a field of a scenario, in bytes. */
+/** The capacity for the name of a field of a scenario or a network, in bytes. */
 enum { RIDDLESAGE_FIELD_ROOM = 64 };
+
+/** The capacity for what a field of a network must be, in words, in bytes. */
+enum { RIDDLESAGE_WORDS_ROOM = 192 };
+
+/** The most bit times of a scenario. */
+enum { RIDDLESAGE_MOST_BITS = 1000000 };
 
 /**
  * Simulates a scenario, and writes its report: byte for byte the output of `canbit run` (docs/FORMATS.md).
@@ -552,6 +562,71 @@ enum { RIDDLESAGE_FIELD_ROOM = 64 };
  */
 riddlesage_status riddlesage_run(const char *text, size_t length, char *report, size_t room, size_t *count,
                                  char *field);
+
+/** What a port of a scenario did in a bit time. */
+typedef struct riddlesage_port_time {
+  uint16_t transmit; /**< the transmit error counter, TEC, before the bit time */
+  uint16_t receive;  /**< the receive error counter, REC, before the bit time */
+  uint8_t phase;     /**< the riddlesage_phase before the bit time */
+  uint8_t sender;    /**< 1 if the port was the transmitter of the frame on the bus, otherwise 0 */
+  uint8_t drives;    /**< the level that it drove */
+  uint8_t samples;   /**< the level that it sampled */
+  uint8_t event;     /**< the riddlesage_event of the bit time */
+} riddlesage_port_time;
+
+/**
+ * Simulates a scenario, and writes what one of its ports did in each bit time.
+ * @param[in] text the scenario, a TOML document
+ * @param length its length in bytes
+ * @param port the index of the port; the first is 0
+ * @param[out] times the bit times, the first of the scenario first
+ * @param room the capacity of `times`, in elements; RIDDLESAGE_MOST_BITS suffices
+ * @param[out] count how many bit times the scenario has
+ * @param[out] field with BAD_SCENARIO the first field that is wrong, such as `port[0].log`, with a terminating 0:
+ * RIDDLESAGE_FIELD_ROOM bytes; may be NULL
+ * @return OK, NULL_POINTER, NO_MEMORY, BAD_SCENARIO, NO_SUCH_PORT, NO_ROOM
+ */
+riddlesage_status riddlesage_port_times(const char *text, size_t length, size_t port, riddlesage_port_time *times,
+                                        size_t room, size_t *count, char *field);
+
+/** What is wrong in a network: `canplan` prints both texts (docs/CODES.md). */
+typedef struct riddlesage_wrong {
+  char field[RIDDLESAGE_FIELD_ROOM]; /**< the first field that is wrong, such as `message[3].period`, with a terminating
+                                          0 */
+  char words[RIDDLESAGE_WORDS_ROOM]; /**< what it must be, such as `must be 0 to 15`, with a terminating 0 */
+} riddlesage_wrong;
+
+/**
+ * Analyses a network, and writes an upper bound on the response time of each message: byte for byte the output of
+ * `canplan` (docs/PLANNING.md).
+ * @param[in] text the network, a TOML document
+ * @param length its length in bytes
+ * @param details 1 to write also the parts of each bound, as `canplan --details`; otherwise 0
+ * @param[out] report a line for each message and for the network, without a terminating 0
+ * @param room the capacity of `report`, in bytes
+ * @param[out] count how many bytes the report has; with NO_ROOM too, or 0 if these are more than RIDDLESAGE_MOST_TEXT
+ * @param[out] late how many messages may miss their deadlines; may be NULL
+ * @param[out] wrong with BAD_NETWORK what is wrong; may be NULL
+ * @return OK, NULL_POINTER, BAD_FLAG for `details`, NO_MEMORY, BAD_NETWORK, NO_ROOM
+ */
+riddlesage_status riddlesage_plan(const char *text, size_t length, uint8_t details, char *report, size_t room,
+                                  size_t *count, size_t *late, riddlesage_wrong *wrong);
+
+/**
+ * Writes the worst case of a message of a network, without bit errors, as a scenario for riddlesage_run(): byte for
+ * byte the output of `canplan --timeline` (docs/PLANNING.md).
+ * @param[in] text the network, a TOML document
+ * @param length its length in bytes
+ * @param[in] message the `frame` of the message, such as `S 300 D`; it needs no terminating 0
+ * @param message_length its length in bytes
+ * @param[out] scenario the scenario, without a terminating 0
+ * @param room the capacity of `scenario`, in bytes
+ * @param[out] count how many bytes the scenario has; with NO_ROOM too, or 0 if these are more than RIDDLESAGE_MOST_TEXT
+ * @param[out] wrong with BAD_NETWORK what is wrong; may be NULL
+ * @return OK, NULL_POINTER, NO_MEMORY, BAD_NETWORK, NO_MESSAGE, TOO_LONG, NO_ROOM
+ */
+riddlesage_status riddlesage_worst_case(const char *text, size_t length, const char *message, size_t message_length,
+                                        char *scenario, size_t room, size_t *count, riddlesage_wrong *wrong);
 
 /**
  * Decodes a trace, and writes a line for each frame and fault: byte for byte the output of `canbit decode`

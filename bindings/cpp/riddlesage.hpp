@@ -2,10 +2,9 @@
 /// @brief riddlesage.h for C++20: a bit-level reference model of a classical CAN controller.
 ///
 /// A Port is a CAN node. It frees itself, and can be moved and kept in containers. Enumerations and spans replace
-/// numbers and pointers. Only text(), play(), run(), decode_trace() and decode_levels() may throw, if there is no
-/// memory for a text or a list. A call that can fail returns a Status; unless it is Status::ok, nothing has changed.
-/// riddlesage.h says what each call does. The Rattle functions that the calls use are proved; this header is only
-/// tested.
+/// numbers and pointers. Only play() and the calls that return or take a text may throw, if there is no memory for a
+/// text or a list. A call that can fail returns a Status; unless it is Status::ok, nothing has changed. riddlesage.h
+/// says what each call does. The Rattle functions that the calls use are proved; this header is only tested.
 #ifndef RIDDLESAGE_HPP
 #define RIDDLESAGE_HPP
 
@@ -16,6 +15,7 @@
 #include <cstddef>
 #include <cstdint>
 #include <cstdlib>
+#include <functional>
 #include <iterator>
 #include <memory>
 #include <optional>
@@ -66,7 +66,10 @@ enum class Status : std::uint8_t {
   bad_bus = RIDDLESAGE_BAD_BUS,
   no_such_port = RIDDLESAGE_NO_SUCH_PORT,
   bad_order = RIDDLESAGE_BAD_ORDER,
-  bad_wire = RIDDLESAGE_BAD_WIRE
+  bad_wire = RIDDLESAGE_BAD_WIRE,
+  bad_network = RIDDLESAGE_BAD_NETWORK,
+  no_message = RIDDLESAGE_NO_MESSAGE,
+  too_long = RIDDLESAGE_TOO_LONG
 };
 
 /// The event of a bit time, as a port reports it.
@@ -127,6 +130,26 @@ enum class Rule : std::uint8_t {
   after_a_flag = RIDDLESAGE_RULE_AFTER_A_FLAG,
   delimiter = RIDDLESAGE_RULE_DELIMITER,
   overload_flags = RIDDLESAGE_RULE_OVERLOAD_FLAGS
+};
+
+/// The field of a frame in which a level is (3.2.1). rtr_or_srr is what RTR and SRR are if the levels end before the
+/// IDE bit.
+enum class Field : std::uint8_t {
+  start_of_frame = RIDDLESAGE_FIELD_START_OF_FRAME,
+  identifier = RIDDLESAGE_FIELD_IDENTIFIER,
+  rtr_or_srr = RIDDLESAGE_FIELD_RTR_OR_SRR,
+  rtr = RIDDLESAGE_FIELD_RTR,
+  srr = RIDDLESAGE_FIELD_SRR,
+  ide = RIDDLESAGE_FIELD_IDE,
+  r1 = RIDDLESAGE_FIELD_R1,
+  r0 = RIDDLESAGE_FIELD_R0,
+  data_length_code = RIDDLESAGE_FIELD_DATA_LENGTH_CODE,
+  data = RIDDLESAGE_FIELD_DATA,
+  crc_sequence = RIDDLESAGE_FIELD_CRC_SEQUENCE,
+  crc_delimiter = RIDDLESAGE_FIELD_CRC_DELIMITER,
+  ack_slot = RIDDLESAGE_FIELD_ACK_SLOT,
+  ack_delimiter = RIDDLESAGE_FIELD_ACK_DELIMITER,
+  end_of_frame = RIDDLESAGE_FIELD_END_OF_FRAME
 };
 
 namespace detail {
@@ -249,6 +272,28 @@ private:
   std::array<Level, RIDDLESAGE_MOST_LEVELS> levels_{};
 };
 
+/// What a level is: its field, and whether it is a stuff bit, which has the field of the level before it.
+struct Mark {
+  Field field = Field::start_of_frame;
+  bool stuffed = false;
+
+  [[nodiscard]] friend constexpr bool operator==(const Mark &, const Mark &) noexcept = default;
+};
+
+/// The marks of levels, or why there are none.
+class Marks {
+public:
+  [[nodiscard]] Status status() const noexcept { return status_; }
+  [[nodiscard]] std::span<const Mark> marks() const noexcept { return std::span(marks_).first(count_); }
+
+private:
+  friend Marks marks(std::span<const Level> levels) noexcept;
+
+  Status status_ = Status::ok;
+  std::size_t count_ = 0;
+  std::array<Mark, RIDDLESAGE_MOST_LEVELS> marks_{};
+};
+
 namespace detail {
 
 // Arguments for C: enumerations of one byte, which may be accessed as bytes.
@@ -297,6 +342,15 @@ inline void demand(riddlesage_status status) noexcept
 {
   Frame out{plain.identifier, plain.extended != 0, plain.remote != 0, plain.dlc, {}};
   std::ranges::copy(plain.data, out.data.begin());
+  return out;
+}
+
+/// The event that a call of the library reports, with its frame if it has one.
+[[nodiscard]] inline Reported reported(std::uint8_t event, const riddlesage_frame &frame) noexcept
+{
+  Reported out{static_cast<Event>(event), std::nullopt};
+  if (out.event == Event::sent || out.event == Event::received)
+    out.frame = frame_of(frame);
   return out;
 }
 
@@ -359,10 +413,7 @@ public:
     std::uint8_t event = 0;
     riddlesage_frame frame{};
     detail::demand(riddlesage_port_sample(at_.get(), static_cast<std::uint8_t>(bus), &event, &frame));
-    Reported reported{static_cast<Event>(event), std::nullopt};
-    if (reported.event == Event::sent || reported.event == Event::received)
-      reported.frame = detail::frame_of(frame);
-    return reported;
+    return detail::reported(event, frame);
   }
 
   /// Samples these levels, one per bit time, whatever the port drives; writes what it drove in each bit time, and the
@@ -417,6 +468,8 @@ private:
 
   friend Played play(std::span<Port> ports, std::span<const Offer> offers, std::span<const Hit> hits,
                      std::span<Level> levels);
+  friend class Wire;
+  friend class Coverage;
 
   explicit Port(Place at) noexcept : at_(std::move(at)) {}
 
@@ -533,6 +586,12 @@ private:
   return out;
 }
 
+/// The result of Wire::run().
+struct Ran {
+  Status status = Status::ok; ///< unless it is ok, nothing has changed
+  std::size_t passed = 0;     ///< how many bit times have passed
+};
+
 /// The state of a bus between two bit times, without its nodes: for a bus on which some nodes are your own code. At
 /// first no bit time has passed, and the bus counts as recessive for eleven. It is a value, and allocates no memory.
 class Wire {
@@ -551,6 +610,28 @@ public:
                                                   seen.empty() ? nullptr : detail::room_of(seen)));
   }
 
+  /// Passes bit times of a bus of 1 to 64 ports until one of them has an event, but at most `bits`. Writes the event of
+  /// each port in the last bit time. Hits may be in any order. Fails with bad_bus, with no_room if `reported` is not as
+  /// long as `ports`, and with no_such_port for a view of no port.
+  [[nodiscard]] Ran run(std::span<Port> ports, std::span<const Hit> hits, std::size_t bits,
+                        std::span<Reported> reported) noexcept
+  {
+    std::array<riddlesage_port *, RIDDLESAGE_MOST_PORTS> at{};
+    std::array<std::uint8_t, RIDDLESAGE_MOST_PORTS> events{};
+    std::array<riddlesage_frame, RIDDLESAGE_MOST_PORTS> frames{};
+    if (ports.size() > at.size())
+      return {Status::bad_bus, 0};
+    if (reported.size() != ports.size())
+      return {Status::no_room, 0};
+    std::ranges::transform(ports, at.begin(), [](const Port &port) { return port.place(); });
+    Ran out;
+    out.status = detail::status_of(riddlesage_wire_run(&plain_, at.data(), ports.size(), Hit::plain(hits), hits.size(),
+                                                       bits, events.data(), frames.data(), &out.passed));
+    if (out.status == Status::ok)
+      std::ranges::transform(std::span(events).first(ports.size()), frames, reported.begin(), detail::reported);
+    return out;
+  }
+
   /// How many bit times have passed.
   [[nodiscard]] std::uint64_t time() const noexcept { return plain_.time; }
 
@@ -559,6 +640,58 @@ public:
 
 private:
   riddlesage_wire plain_ = RIDDLESAGE_WIRE_INIT;
+};
+
+/// In how many bit times each combination of a rule of docs/ACCESS.md, a role and an error state has occurred
+/// (docs/COVERAGE.md). It is a value, and allocates no memory.
+class Coverage {
+public:
+  /// How many combinations can occur.
+  static constexpr std::size_t items = RIDDLESAGE_COVERAGE_ITEMS;
+
+  /// Passes one bit time as Port::sample() does, and counts the rules that the port applies in it.
+  Reported sample(Port &port, Level bus) noexcept
+  {
+    std::uint8_t event = 0;
+    riddlesage_frame frame{};
+    detail::demand(
+        riddlesage_coverage_sample(port.place(), &plain_, static_cast<std::uint8_t>(bus), &event, &frame));
+    return detail::reported(event, frame);
+  }
+
+  /// The count of each combination.
+  [[nodiscard]] std::span<const std::uint64_t, items> counts() const noexcept { return plain_.counts; }
+
+  /// Adds the counts of another one.
+  Coverage &operator+=(const Coverage &other) noexcept
+  {
+    std::ranges::transform(plain_.counts, other.plain_.counts, std::begin(plain_.counts), std::plus<>());
+    return *this;
+  }
+
+  /// The name of a combination, such as "Suspend transmission, transmitter passive"; empty for an undefined number.
+  [[nodiscard]] static std::string_view name(std::size_t item) noexcept
+  {
+    return detail::text_of(riddlesage_coverage_name(item));
+  }
+
+  /// The name of a case of the conformance kit in which a combination occurs; empty if none reaches it.
+  [[nodiscard]] static std::string_view case_name(std::size_t item) noexcept
+  {
+    return detail::text_of(riddlesage_coverage_case(item));
+  }
+
+  /// The line of a combination in a report, such as `coverage 12 Joining, receiver active`; empty for an undefined
+  /// number.
+  [[nodiscard]] std::string line(std::size_t item) const
+  {
+    std::array<char, RIDDLESAGE_COVERAGE_LINE> line{};
+    static_cast<void>(riddlesage_coverage_line(&plain_, item, line.data()));
+    return line.data();
+  }
+
+private:
+  riddlesage_coverage plain_ = RIDDLESAGE_COVERAGE_INIT;
 };
 
 /// Encodes a frame: the levels that its transmitter drives from the start of frame to the end of frame, with stuff
@@ -585,12 +718,49 @@ private:
                level(heard.r0), level(heard.last), place};
 }
 
-/// The output for a scenario or a trace: the report, or the lines.
+/// Names the field of each level, and the stuff bits. It reads at most the first RIDDLESAGE_MOST_LEVELS. Levels have a
+/// mark from a start of frame on, to the end of the frame, or to a wrong stuff bit; if the first one is recessive, none
+/// has one.
+[[nodiscard]] inline Marks marks(std::span<const Level> levels) noexcept
+{
+  Marks out;
+  std::array<std::uint8_t, RIDDLESAGE_MOST_LEVELS> fields{};
+  std::array<std::uint8_t, RIDDLESAGE_MOST_LEVELS> stuffed{};
+  out.status_ = detail::status_of(
+      riddlesage_marks(detail::front_of(levels), levels.size(), fields.data(), stuffed.data(), &out.count_));
+  std::ranges::transform(fields, stuffed, out.marks_.begin(), [](std::uint8_t field, std::uint8_t is_stuffed) {
+    return Mark{static_cast<Field>(field), is_stuffed != 0};
+  });
+  return out;
+}
+
+/// The output for a document or a trace, or why there is none.
 struct Written {
   Status status = Status::ok;
   std::string text;      ///< with bad_byte the lines of the levels before that byte
-  std::string field;     ///< with bad_scenario the first field that is wrong, such as "port[0].log"
+  std::string field;     ///< with bad_scenario or bad_network the first field that is wrong, such as "port[0].log"
+  std::string words;     ///< with bad_network what that field must be, such as "must be 0 to 15"
   std::size_t place = 0; ///< with bad_byte how many bytes come before that one
+  std::size_t late = 0;  ///< of plan() how many messages may miss their deadlines
+};
+
+/// What a port of a scenario did in a bit time. The counters and the phase are those before it.
+struct PortTime {
+  Counters counters{};
+  Phase phase = Phase::idle;
+  bool sender = false; ///< whether the port was the transmitter of the frame on the bus
+  Level drives = Level::recessive;
+  Level samples = Level::recessive;
+  Event event = Event::nothing;
+
+  [[nodiscard]] friend constexpr bool operator==(const PortTime &, const PortTime &) noexcept = default;
+};
+
+/// The result of port_times().
+struct PortTimes {
+  Status status = Status::ok;
+  std::vector<PortTime> times;
+  std::string field; ///< with bad_scenario the first field that is wrong, such as "port[0].log"
 };
 
 namespace detail {
@@ -611,6 +781,29 @@ template <typename Call> [[nodiscard]] Written written(const Call &call)
   return out;
 }
 
+/// The address of a text for calls that refuse a null pointer.
+[[nodiscard]] inline const char *front_of(std::string_view of) noexcept { return of.empty() ? "" : of.data(); }
+
+/// The result of a call that writes a text for a network, and what is wrong in it.
+template <typename Call> [[nodiscard]] Written written_for_network(const Call &call)
+{
+  riddlesage_wrong wrong{};
+  Written out = written([&](Written &to, std::size_t *count) { return call(to, count, &wrong); });
+  out.field = std::data(wrong.field);
+  out.words = std::data(wrong.words);
+  return out;
+}
+
+[[nodiscard]] inline PortTime port_time_of(const riddlesage_port_time &plain) noexcept
+{
+  return {{plain.transmit, plain.receive},
+          static_cast<Phase>(plain.phase),
+          plain.sender != 0,
+          static_cast<Level>(plain.drives),
+          static_cast<Level>(plain.samples),
+          static_cast<Event>(plain.event)};
+}
+
 } // namespace detail
 
 /// Simulates a scenario, a TOML document, and returns its report: the output of `canbit run`. Fails with bad_scenario,
@@ -618,22 +811,63 @@ template <typename Call> [[nodiscard]] Written written(const Call &call)
 [[nodiscard]] inline Written run(std::string_view scenario)
 {
   std::array<char, RIDDLESAGE_FIELD_ROOM> field{};
-  const char *const at = scenario.empty() ? "" : scenario.data();
   Written out = detail::written([&](Written &to, std::size_t *count) {
-    return riddlesage_run(at, scenario.size(), to.text.data(), to.text.size(), count, field.data());
+    return riddlesage_run(detail::front_of(scenario), scenario.size(), to.text.data(), to.text.size(), count,
+                          field.data());
   });
   if (out.status == Status::bad_scenario)
     out.field = field.data();
   return out;
 }
 
+/// Simulates a scenario, and returns what one of its ports did in each bit time; the first port is 0. Fails with
+/// bad_scenario, no_such_port, no_memory.
+[[nodiscard]] inline PortTimes port_times(std::string_view scenario, std::size_t port)
+{
+  std::array<char, RIDDLESAGE_FIELD_ROOM> field{};
+  std::vector<riddlesage_port_time> plain(RIDDLESAGE_MOST_BITS);
+  std::size_t count = 0;
+  PortTimes out;
+  out.status = detail::status_of(riddlesage_port_times(detail::front_of(scenario), scenario.size(), port, plain.data(),
+                                                       plain.size(), &count, field.data()));
+  out.field = field.data();
+  out.times.resize(count);
+  std::ranges::transform(std::span(plain).first(count), out.times.begin(), detail::port_time_of);
+  return out;
+}
+
+/// Analyses a network, a TOML document, and returns an upper bound on the response time of each message: the output of
+/// `canplan`, or of `canplan --details`. Fails with bad_network, no_memory, and no_room beyond RIDDLESAGE_MOST_TEXT
+/// bytes.
+[[nodiscard]] inline Written plan(std::string_view network, bool details = false)
+{
+  std::size_t late = 0;
+  Written out = detail::written_for_network([&](Written &to, std::size_t *count, riddlesage_wrong *wrong) {
+    return riddlesage_plan(detail::front_of(network), network.size(), static_cast<std::uint8_t>(details),
+                           to.text.data(), to.text.size(), count, &late, wrong);
+  });
+  out.late = late;
+  return out;
+}
+
+/// Returns the worst case of a message of a network, such as `S 300 D`, without bit errors, as a scenario for run():
+/// the output of `canplan --timeline`. Fails with bad_network, no_message, too_long, no_memory, and no_room beyond
+/// RIDDLESAGE_MOST_TEXT bytes.
+[[nodiscard]] inline Written worst_case(std::string_view network, std::string_view message)
+{
+  return detail::written_for_network([&](Written &to, std::size_t *count, riddlesage_wrong *wrong) {
+    return riddlesage_worst_case(detail::front_of(network), network.size(), detail::front_of(message), message.size(),
+                                 to.text.data(), to.text.size(), count, wrong);
+  });
+}
+
 /// Decodes a trace, a text of `0` and `1` with spaces and line ends, and returns a line for each frame and fault: the
 /// output of `canbit decode`. Fails with bad_byte, no_memory, and no_room beyond RIDDLESAGE_MOST_TEXT bytes.
 [[nodiscard]] inline Written decode_trace(std::string_view trace)
 {
-  const char *const at = trace.empty() ? "" : trace.data();
   return detail::written([&](Written &to, std::size_t *count) {
-    return riddlesage_decode_trace(at, trace.size(), to.text.data(), to.text.size(), count, &to.place);
+    return riddlesage_decode_trace(detail::front_of(trace), trace.size(), to.text.data(), to.text.size(), count,
+                                   &to.place);
   });
 }
 

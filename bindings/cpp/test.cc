@@ -1,6 +1,8 @@
 // Tests what riddlesage.hpp adds to riddlesage.h: ports that move, errors by name, frames and levels by type.
 #include "riddlesage.hpp"
 
+#include <algorithm>
+#include <array>
 #include <cstdio>
 #include <cstdlib>
 #include <limits>
@@ -42,6 +44,11 @@ void coding()
   want(std::holds_alternative<Fault>(fault) && std::get<Fault>(fault).kind == Status::too_short, "a frame cut short");
   want(std::get<Fault>(fault).place == 20, "its place");
   want(std::get<Fault>(decode({})).kind == Status::too_short, "no levels at all");
+  const Marks marked = marks(encoded.levels());
+  want(marked.status() == Status::ok && marked.marks().size() == 62, "the marks of a frame");
+  want(marked.marks()[0] == Mark{} && marked.marks()[61] == Mark{Field::end_of_frame, false}, "its fields");
+  want(std::ranges::count_if(marked.marks(), &Mark::stuffed) == 2, "its stuff bits");
+  want(marks({}).marks().empty() && marks(std::array{Level::recessive}).marks().empty(), "levels without marks");
   want(encode({.identifier = 0x800}).status() == Status::bad_identifier, "an identifier that is too large");
   want(encode({.dlc = 16}).levels().empty(), "no levels of what is no frame");
   want(text(some) == "S 123 D 2 aa55" && text({.identifier = 0x1234567, .extended = true, .remote = true, .dlc = 9}) ==
@@ -65,6 +72,34 @@ void texts()
   want(bad.status == Status::bad_byte && bad.place == 7 && bad.text == "0 fault C3 at 5\n", "what is no level");
   want(decode_levels(encode(some).levels()).text == "0 S 123 D 2 aa55 noack\n" && decode_levels({}).text.empty(),
        "a trace by its levels");
+}
+
+// What a port of a scenario did, and the bounds and a worst case of a network.
+void networks()
+{
+  const std::string_view scenario = "version = 1\nbits = 3\nport = [{ queue = [\"S 001 D 0\"] }, {}]";
+  const PortTimes ran = port_times(scenario, 0);
+  want(ran.status == Status::ok && ran.times.size() == 3, "three bit times");
+  want(ran.times[0] == PortTime{.drives = Level::dominant, .samples = Level::dominant}, "a start of frame");
+  want(ran.times[1].phase == Phase::stuffed_part && ran.times[1].sender, "a transmitter");
+  want(!port_times(scenario, 1).times[1].sender && port_times(scenario, 2).status == Status::no_such_port, "others");
+  const PortTimes none = port_times("version = 1\nport = [{}]", 0);
+  want(none.status == Status::bad_scenario && none.times.empty() && none.field == "bits", "what is no scenario");
+
+  const std::string network = "version = 1\n[[message]]\nframe = \"S 100 D\"\ndlc = 0\nperiod = 500\n";
+  const Written planned = plan(network);
+  want(planned.status == Status::ok && planned.late == 0 && planned.text.ends_with("late 0 of 1\n"), "bounds");
+  want(plan(network, true).text.find("\n  wire ") != std::string::npos, "their parts");
+  want(plan(network + "deadline = 9").late == 1, "a message that is late");
+  const Written refused = plan(network + "dlc = 9");
+  want(refused.status == Status::bad_network && refused.field == "toml" && refused.text.empty(), "what is no network");
+  const Written worst = worst_case(network, "S 100 D");
+  want(worst.status == Status::ok && run(worst.text).status == Status::ok, "a worst case that can be simulated");
+  want(worst_case(network, "S 101 D").status == Status::no_message, "a message that the network lacks");
+  want(worst_case(network, {}).status == Status::no_message, "no message");
+  want(worst_case(network + "jitter = -1", "S 100 D").words == "must be a time of 0 to 4294967295", "a wrong field");
+  const std::string overload = network + "[[message]]\nframe = \"S 101 D\"\nperiod = 9";
+  want(worst_case(overload, "S 101 D").status == Status::too_long, "a worst case without an end");
 }
 
 void standings()
@@ -153,6 +188,50 @@ void wires()
   want(wire.time() == levels.size() && wire.step(drives, {}, bus) == Status::ok, "no room at all");
 }
 
+// A bus that runs to the next event has the events and counters of one that is stepped.
+void runs()
+{
+  std::vector<Port> ports;
+  ports.push_back(made(1, 4));
+  ports.push_back(made(1, 4));
+  want(ports[0].offer(some) == Status::ok, "an offer");
+  Wire wire;
+  std::array<Reported, 2> reported{};
+  want(wire.run({}, {}, 9, {}).status == Status::bad_bus, "a bus of no ports");
+  want(wire.run(ports, {}, 9, std::span(reported).first(1)).status == Status::no_room, "room for one event");
+  want(wire.run(ports, std::array{Hit::view(0, 2)}, 9, reported).status == Status::no_such_port, "a view of no port");
+  want(wire.time() == 0, "a bus that does not change");
+  Ran ran = wire.run(ports, std::array{Hit::in(0, 16)}, 200, reported);
+  want(ran.status == Status::ok && ran.passed == 17 && wire.time() == 17, "bit times until an event");
+  want(reported[0].event == Event::bit_error && !reported[1], "a bit error");
+  do
+    ran = wire.run(ports, {}, 200, reported);
+  while (ran.status == Status::ok && ran.passed < 200 && reported[1].event != Event::received);
+  want(reported[1].frame == some && !reported[0] && wire.attempts() == 2, "a frame that is received");
+  want(wire.run(ports, {}, 0, reported).passed == 0 && !reported[1], "no bit times");
+}
+
+// Counts of rules: those of one port, and a sum.
+void coverages()
+{
+  Port port = made(1, 0);
+  Coverage coverage;
+  want(port.offer(some) == Status::ok && coverage.counts()[0] == 0, "no count");
+  for (int time = 0; time < 60; time++)
+    coverage.sample(port, port.drive());
+  const auto is_start = [](std::size_t item) { return Coverage::name(item) == "Start of frame, transmitter active"; };
+  std::size_t start = 0;
+  while (start < Coverage::items && !is_start(start))
+    start++;
+  want(start < Coverage::items && coverage.counts()[start] == 1, "a start of frame");
+  Coverage sum = coverage;
+  sum += coverage;
+  want(sum.counts()[start] == 2 && sum.line(start) == "coverage 2 Start of frame, transmitter active", "a sum");
+  want(Coverage().line(0) == "coverage 0 Joining, receiver active; case joining-frame-after-ten reaches it", "none");
+  want(Coverage::case_name(start) == "start-first" && Coverage::name(Coverage::items).empty(), "names");
+  want(sum.line(Coverage::items).empty() && Coverage::case_name(Coverage::items).empty(), "an undefined number");
+}
+
 // Ports in a container that grows, moved about, replaced and swapped.
 void moves()
 {
@@ -184,10 +263,13 @@ int main()
 {
   coding();
   texts();
+  networks();
   standings();
   refusals();
   buses();
   wires();
+  runs();
+  coverages();
   moves();
   return wrong == 0 ? EXIT_SUCCESS : EXIT_FAILURE;
 }

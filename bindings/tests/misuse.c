@@ -16,6 +16,11 @@ static uint16_t transmit, receive;
 static uint32_t missed;
 static size_t count, place;
 static char text[4096], field[RIDDLESAGE_FIELD_ROOM];
+#ifndef RIDDLESAGE_PORTS_ONLY
+static size_t late;
+static riddlesage_wrong wrong_field;
+static riddlesage_port_time times[4];
+#endif
 
 /* Each call on a port, with valid other arguments. */
 static void call_all(riddlesage_port *port, riddlesage_status wanted)
@@ -71,6 +76,16 @@ static void null_pointers(riddlesage_port *port)
   WANT(NULL_POINTER, riddlesage_run(NULL, 0, text, sizeof text, &count, field));
   WANT(NULL_POINTER, riddlesage_run("", 0, NULL, sizeof text, &count, field));
   WANT(NULL_POINTER, riddlesage_run("", 0, text, sizeof text, NULL, field));
+  WANT(NULL_POINTER, riddlesage_port_times(NULL, 0, 0, times, 4, &count, field));
+  WANT(NULL_POINTER, riddlesage_port_times("", 0, 0, NULL, 4, &count, field));
+  WANT(NULL_POINTER, riddlesage_port_times("", 0, 0, times, 4, NULL, field));
+  WANT(NULL_POINTER, riddlesage_plan(NULL, 0, 2, text, sizeof text, &count, &late, &wrong_field));
+  WANT(NULL_POINTER, riddlesage_plan("", 0, 2, NULL, sizeof text, &count, &late, &wrong_field));
+  WANT(NULL_POINTER, riddlesage_plan("", 0, 2, text, sizeof text, NULL, &late, &wrong_field));
+  WANT(NULL_POINTER, riddlesage_worst_case(NULL, 0, "", 0, text, sizeof text, &count, &wrong_field));
+  WANT(NULL_POINTER, riddlesage_worst_case("", 0, NULL, 0, text, sizeof text, &count, &wrong_field));
+  WANT(NULL_POINTER, riddlesage_worst_case("", 0, "", 0, NULL, sizeof text, &count, &wrong_field));
+  WANT(NULL_POINTER, riddlesage_worst_case("", 0, "", 0, text, sizeof text, NULL, &wrong_field));
   WANT(NULL_POINTER, riddlesage_decode_trace(NULL, 0, text, sizeof text, &count, &place));
   WANT(NULL_POINTER, riddlesage_decode_trace("", 0, NULL, sizeof text, &count, &place));
   WANT(NULL_POINTER, riddlesage_decode_trace("", 0, text, sizeof text, NULL, &place));
@@ -338,6 +353,14 @@ static void want_text(const char *wanted, const char *given, int line)
   printf("line %d: %s and not %s\n", line, given, wanted);
 }
 
+/* Whether two bit times are the same; the bytes between their fields are not compared. */
+static bool same_time(const riddlesage_port_time *one, const riddlesage_port_time *other)
+{
+  return one->transmit == other->transmit && one->receive == other->receive && one->phase == other->phase &&
+         one->sender == other->sender && one->drives == other->drives && one->samples == other->samples &&
+         one->event == other->event;
+}
+
 #define WANT_FIELD(name, scenario)                                                                        \
   do {                                                                                                    \
     WANT(BAD_SCENARIO, riddlesage_run(scenario, strlen(scenario), text, sizeof text, &count, field));     \
@@ -361,6 +384,119 @@ static void bad_scenarios(void)
   WANT_FIELD("port[0].queue[1]", "version = 1\nbits = 1\nport = [{ queue = [\"S 001 D 0\", \"S 800 D 0\"] }]");
   WANT_FIELD("port[0].join", "version = 1\nbits = 1\nport = [{ join = 1 }]");
   WANT_FIELD("port[0].hold", "version = 1\nbits = 1\nport = [{ hold = 3 }]");
+}
+
+/* Bit times of a port: with an array that is large enough, just large enough, and too small; and what is refused. */
+static void port_times(void)
+{
+  static const char scenario[] = "version = 1\nbits = 3\nport = [{ queue = [\"S 001 D 0\"] }, { join = true }]\n";
+  static const riddlesage_port_time start = { 0, 0, RIDDLESAGE_PHASE_IDLE, 0, 0, 0, 0 };
+  static const riddlesage_port_time joining = { 0, 0, RIDDLESAGE_PHASE_JOINING, 0, 1, 0, 0 };
+  const size_t length = sizeof scenario - 1;
+  riddlesage_port_time before;
+
+  WANT(OK, riddlesage_port_times(scenario, length, 0, times, 4, &count, NULL));
+  want(count == 3 ? RIDDLESAGE_OK : RIDDLESAGE_SHORT, RIDDLESAGE_OK, "three bit times", __LINE__);
+  want(same_time(&start, &times[0]) ? RIDDLESAGE_OK : RIDDLESAGE_FORM, RIDDLESAGE_OK, "a start", __LINE__);
+  want(times[1].sender == 1 && times[1].phase == RIDDLESAGE_PHASE_STUFFED_PART ? RIDDLESAGE_OK : RIDDLESAGE_FORM,
+       RIDDLESAGE_OK, "a transmitter", __LINE__);
+  WANT(OK, riddlesage_port_times(scenario, length, 1, times, 3, &count, field));
+  want(same_time(&joining, &times[0]) ? RIDDLESAGE_OK : RIDDLESAGE_FORM, RIDDLESAGE_OK, "integration", __LINE__);
+  memset(times, 0x55, sizeof times);
+  before = times[0];
+  count = 99;
+  WANT(NO_ROOM, riddlesage_port_times(scenario, length, 1, times, 2, &count, field));
+  WANT(NO_SUCH_PORT, riddlesage_port_times(scenario, length, 2, times, 4, &count, field));
+  WANT(NO_SUCH_PORT, riddlesage_port_times(scenario, length, SIZE_MAX, times, 4, &count, field));
+  WANT(BAD_SCENARIO, riddlesage_port_times("version = 1\nport = [{}]", 23, 0, times, 4, &count, NULL));
+  WANT(BAD_SCENARIO, riddlesage_port_times("version = 1\nport = [{}]", 23, 9, times, 4, &count, field));
+  want_text("bits", field, __LINE__);
+  WANT_SAME(before, times[0]);
+  want(count == 99 ? RIDDLESAGE_OK : RIDDLESAGE_NO_ROOM, RIDDLESAGE_OK, "count is written", __LINE__);
+}
+
+#define WANT_WRONG(name, network)                                                                                 \
+  do {                                                                                                            \
+    WANT(BAD_NETWORK, riddlesage_plan(network, strlen(network), 0, text, sizeof text, &count, &late, &wrong_field)); \
+    want_text(name, wrong_field.field, __LINE__);                                                                 \
+    memset(&wrong_field, 'x', sizeof wrong_field);                                                                \
+    WANT(BAD_NETWORK, riddlesage_worst_case(network, strlen(network), "S 100 D", 7, text, 0, &count, &wrong_field)); \
+    want_text(name, wrong_field.field, __LINE__);                                                                 \
+  } while (0)
+
+/* A message of a network, with further fields. */
+#define MESSAGE(more) "[[message]]\nframe = \"S 100 D\"\nperiod = 500\n" more "\n"
+
+/* Invalid networks, by the wrong field, in the order of docs/PLANNING.md. */
+static void bad_networks(void)
+{
+  WANT_WRONG("toml", "version = ");
+  want_text("must be a TOML document in UTF-8", wrong_field.words, __LINE__);
+  WANT_WRONG("toml", "\xff");
+  WANT_WRONG("key", "version = 1\ncolour = 1\n" MESSAGE(""));
+  WANT_WRONG("version", "");
+  WANT_WRONG("version", "version = 2\n" MESSAGE(""));
+  WANT_WRONG("rate", "version = 1\nrate = 1000001\n" MESSAGE(""));
+  WANT_WRONG("errors", "version = 1\nerrors = 1\n" MESSAGE(""));
+  WANT_WRONG("errors.key", "version = 1\n[errors]\ncolour = 1\n" MESSAGE(""));
+  WANT_WRONG("errors.burst", "version = 1\n[errors]\nburst = 65536\n" MESSAGE(""));
+  WANT_WRONG("errors.spacing", "version = 1\n[errors]\nspacing = -1\n" MESSAGE(""));
+  WANT_WRONG("message", "version = 1");
+  WANT_WRONG("message[1]", "version = 1\nmessage = [{ frame = \"S 100 D\", period = 500 }, 1]");
+  WANT_WRONG("message[0].key", "version = 1\n" MESSAGE("colour = 1"));
+  WANT_WRONG("message[0].frame", "version = 1\n[[message]]\nframe = \"S 800 D\"\nperiod = 500");
+  WANT_WRONG("message[0].dlc", "version = 1\n" MESSAGE("dlc = 16"));
+  want_text("must be 0 to 15", wrong_field.words, __LINE__);
+  WANT_WRONG("message[0].period", "version = 1\n[[message]]\nframe = \"S 100 D\"\nperiod = 0");
+  WANT_WRONG("message[0].jitter", "version = 1\n" MESSAGE("jitter = -1"));
+  WANT_WRONG("message[0].deadline", "version = 1\n" MESSAGE("deadline = 1.5"));
+  WANT_WRONG("message[0].name", "version = 1\n" MESSAGE("name = \"\""));
+  want_text("must be 1 to 64 printable ASCII characters, except double quotation marks and backslashes",
+            wrong_field.words, __LINE__);
+  WANT_WRONG("message[1]", "version = 1\n" MESSAGE("") MESSAGE(""));
+  want_text("must differ in identifier or kind from every earlier message", wrong_field.words, __LINE__);
+  WANT_WRONG("message[1].name",
+             "version = 1\n" MESSAGE("name = \"a\"") "[[message]]\nframe = \"S 101 D\"\nperiod = 9\nname = \"a\"");
+  want_text("must differ from the name of every earlier message", wrong_field.words, __LINE__);
+}
+
+/* A network, with a buffer that is large enough, just large enough, and too small; and what is refused. */
+static void networks(void)
+{
+  static const char network[] = "version = 1\n" MESSAGE("dlc = 0");
+  static const char overload[] = "version = 1\n" MESSAGE("") "[[message]]\nframe = \"S 101 D\"\nperiod = 9";
+  static const char report[] = "network messages 1 load 0.102 rate 0\n"
+                               "S 100 D 0 longest 51 blocking 0 bound 48 deadline 500 slack 452 ok\n"
+                               "load 0.102 late 0 of 1\n";
+  const size_t length = sizeof network - 1, needed = sizeof report - 1;
+  unsigned flag;
+
+  WANT(OK, riddlesage_plan(network, length, 0, text, needed, &count, &late, NULL));
+  want(count == needed && late == 0 ? RIDDLESAGE_OK : RIDDLESAGE_SHORT, RIDDLESAGE_OK, "the length", __LINE__);
+  text[count] = '\0';
+  want_text(report, text, __LINE__);
+  memset(text, 'x', sizeof text);
+  late = 99;
+  WANT(NO_ROOM, riddlesage_plan(network, length, 0, text, needed - 1, &count, &late, &wrong_field));
+  want(count == needed && text[0] == 'x' && late == 99 ? RIDDLESAGE_OK : RIDDLESAGE_NO_ROOM, RIDDLESAGE_OK, "no room",
+       __LINE__);
+  for (flag = 2; flag <= UINT8_MAX; flag++)
+    WANT(BAD_FLAG, riddlesage_plan(network, length, (uint8_t)flag, text, sizeof text, &count, &late, &wrong_field));
+  WANT(OK, riddlesage_plan(network, length, 1, text, sizeof text, &count, NULL, &wrong_field));
+  want(count > needed ? RIDDLESAGE_OK : RIDDLESAGE_SHORT, RIDDLESAGE_OK, "details", __LINE__);
+  WANT(OK, riddlesage_plan(overload, sizeof overload - 1, 0, text, sizeof text, &count, &late, &wrong_field));
+  want(late == 1 ? RIDDLESAGE_OK : RIDDLESAGE_SHORT, RIDDLESAGE_OK, "a late message", __LINE__);
+  WANT(BAD_NETWORK, riddlesage_plan("", 0, 0, text, sizeof text, &count, NULL, NULL));
+  WANT(OK, riddlesage_worst_case(network, length, "S 100 D", 7, text, sizeof text, &count, NULL));
+  want(count > 0 && memcmp(text, "version = 2\n", 12) == 0 ? RIDDLESAGE_OK : RIDDLESAGE_SHORT, RIDDLESAGE_OK,
+       "a scenario", __LINE__);
+  WANT(OK, riddlesage_worst_case(network, length, "S 100 D", 7, text, count, &count, &wrong_field));
+  WANT(NO_ROOM, riddlesage_worst_case(network, length, "S 100 D", 7, text, count - 1, &count, &wrong_field));
+  WANT(NO_MESSAGE, riddlesage_worst_case(network, length, "S 100 D", 6, text, sizeof text, &count, &wrong_field));
+  WANT(NO_MESSAGE, riddlesage_worst_case(network, length, "S 100 R", 7, text, sizeof text, &count, &wrong_field));
+  WANT(NO_MESSAGE, riddlesage_worst_case(network, length, "", 0, text, sizeof text, &count, &wrong_field));
+  WANT(TOO_LONG, riddlesage_worst_case(overload, sizeof overload - 1, "S 101 D", 7, text, sizeof text, &count, NULL));
+  WANT(BAD_NETWORK, riddlesage_worst_case("", 0, "S 100 D", 7, text, sizeof text, &count, NULL));
 }
 
 /* A valid scenario and a valid trace, with a buffer that is large enough, just large enough, and too small. */
@@ -465,12 +601,15 @@ int main(void)
   behind_the_longest();
 #ifndef RIDDLESAGE_PORTS_ONLY
   bad_scenarios();
+  port_times();
+  bad_networks();
+  networks();
   texts();
   traces_of_levels();
   fields_of_levels();
 #endif
   WANT(OK, riddlesage_port_free(&port));
-  if (riddlesage_status_name((riddlesage_status)26) != NULL || riddlesage_event_name((riddlesage_event)12) != NULL ||
+  if (riddlesage_status_name((riddlesage_status)29) != NULL || riddlesage_event_name((riddlesage_event)12) != NULL ||
       riddlesage_phase_name((riddlesage_phase)15) != NULL || riddlesage_rule_name((riddlesage_rule)17) != NULL)
     wrong++;
   return ended();

@@ -113,6 +113,33 @@ static bool play_texts(void)
   return well && status == (refused != before ? RIDDLESAGE_NO_MEMORY : RIDDLESAGE_OK);
 }
 
+/* Port times, an analysis and a worst case; and a wrong text, whose field another call finds: the same. */
+static bool play_networks(void)
+{
+  static const char scenario[] = "version = 1\nbits = 60\nport = [{ queue = [\"S 001 D 0\"], log = 1 }, { log = 1 }]\n";
+  static const char network[] = "version = 1\n[[message]]\nframe = \"S 100 D\"\nperiod = 500\n";
+  static char text[4096], field[RIDDLESAGE_FIELD_ROOM];
+  riddlesage_port_time times[60];
+  riddlesage_wrong wrong;
+  size_t count;
+  bool before = refused, well;
+  riddlesage_status status = riddlesage_port_times(scenario, sizeof scenario - 1, 1, times, 60, &count, field);
+
+  well = status == (refused != before ? RIDDLESAGE_NO_MEMORY : RIDDLESAGE_OK);
+  before = refused;
+  status = riddlesage_port_times("version = 1", 11, 1, times, 60, &count, field);
+  well = well && status == (refused != before ? RIDDLESAGE_NO_MEMORY : RIDDLESAGE_BAD_SCENARIO);
+  before = refused;
+  status = riddlesage_plan(network, sizeof network - 1, 1, text, sizeof text, &count, NULL, &wrong);
+  well = well && status == (refused != before ? RIDDLESAGE_NO_MEMORY : RIDDLESAGE_OK);
+  before = refused;
+  status = riddlesage_worst_case(network, sizeof network - 1, "S 100 D", 7, text, sizeof text, &count, &wrong);
+  well = well && status == (refused != before ? RIDDLESAGE_NO_MEMORY : RIDDLESAGE_OK);
+  before = refused;
+  status = riddlesage_worst_case("version = 1", 11, "S 100 D", 7, text, sizeof text, &count, &wrong);
+  return well && status == (refused != before ? RIDDLESAGE_NO_MEMORY : RIDDLESAGE_BAD_NETWORK);
+}
+
 int main(void)
 {
   int number = 0;
@@ -120,7 +147,7 @@ int main(void)
   do {
     refused = false;
     given = number++;
-    if (!play() || !play_copy() || !play_bus() || !play_texts()) {
+    if (!play() || !play_copy() || !play_bus() || !play_texts() || !play_networks()) {
       printf("allocation %d is refused, and no call reports it\n", number);
       return EXIT_FAILURE;
     }

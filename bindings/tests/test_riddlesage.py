@@ -589,7 +589,7 @@ class Text(unittest.TestCase):
 
     def test_example(self) -> None:
         """Its example gives the result shown."""
-        for module in (riddlesage, *map(sys.modules.get, ("riddlesage._bus", "riddlesage._play"))):
+        for module in (riddlesage, *map(sys.modules.get, ("riddlesage._bus", "riddlesage._play", "riddlesage._texts"))):
             failed, tried = doctest.testmod(module)
             self.assertEqual((failed, tried > 0), (0, True))
 

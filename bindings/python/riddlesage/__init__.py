@@ -42,13 +42,25 @@ from riddlesage._library import MissingLibrary, version
 from riddlesage._marks import Field, Mark, marks
 from riddlesage._play import Played, play
 from riddlesage._ports import Counters, Entry, Event, Phase, Port, Reported, Rule, Run, Standing, State
-from riddlesage._texts import BadByte, BadScenario, decode_trace, run
+from riddlesage._texts import (
+    BadByte,
+    BadNetwork,
+    BadScenario,
+    Planned,
+    PortTime,
+    decode_trace,
+    plan_network,
+    port_times,
+    run,
+    worst_case,
+)
 
 __all__ = [
     "DOMINANT",
     "RECESSIVE",
     "BadByte",
     "BadFrame",
+    "BadNetwork",
     "BadScenario",
     "Bus",
     "Counters",
@@ -63,8 +75,10 @@ __all__ = [
     "Mark",
     "MissingLibrary",
     "Phase",
+    "Planned",
     "Played",
     "Port",
+    "PortTime",
     "Refused",
     "Reported",
     "RiddlesageError",
@@ -77,8 +91,11 @@ __all__ = [
     "decode_trace",
     "encode",
     "marks",
+    "plan_network",
     "play",
+    "port_times",
     "run",
+    "worst_case",
 ]
 
 if TYPE_CHECKING:

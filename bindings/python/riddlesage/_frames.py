@@ -47,6 +47,9 @@ class Status(enum.IntEnum):
     BAD_ORDER = 23
     BAD_KIND = 24
     BAD_WIRE = 25
+    BAD_NETWORK = 26
+    NO_MESSAGE = 27
+    TOO_LONG = 28
 
 
 # What each status says, after its name.
@@ -72,10 +75,13 @@ _MEANINGS = {
     Status.BAD_SCENARIO: "the text is not a valid scenario",
     Status.BAD_BYTE: "a byte of a trace is not a level",
     Status.BAD_BUS: "a bus has 1 to 64 ports, each once",
-    Status.NO_SUCH_PORT: "an offer or a hit names no port of the bus",
+    Status.NO_SUCH_PORT: "an offer, a hit or a number names no port of the bus or the scenario",
     Status.BAD_ORDER: "offers or hits are not in order",
     Status.BAD_KIND: "there is no such kind of hit",
     Status.BAD_WIRE: "2^64 - 1 bit times have passed",
+    Status.BAD_NETWORK: "the text is not a valid network",
+    Status.NO_MESSAGE: "no message of the network has this name",
+    Status.TOO_LONG: "the worst case is longer than a scenario can be, or has no end",
 }
 
 

@@ -12,8 +12,17 @@ from typing import Any
 # The name for the system's loader: it ends with the major version.
 _SONAME = "libriddlesage.so.0"
 
-# The capacity for the name of a field of a scenario.
-FIELD_ROOM = 64
+# The capacity for the name of a field of a document, and for what it must be.
+FIELD_ROOM, WORDS_ROOM = 64, 192
+# The most bit times of a scenario.
+MOST_BITS = 1_000_000
+# The combinations of rule coverage.
+COVERAGE_ITEMS = 64
+# The bits of a number of elements on this machine.
+SIZE_BITS = 8 * ctypes.sizeof(ctypes.c_size_t)
+
+
+# The structs are laid out alike on all machines, so each has its unused bytes as a field.
 
 
 class PlainFrame(ctypes.Structure):
@@ -44,7 +53,7 @@ class PlainHeard(ctypes.Structure):
 class PlainOffer(ctypes.Structure):
     """A riddlesage_offer."""
 
-    _fields_ = (("time", ctypes.c_uint64), ("port", ctypes.c_size_t), ("frame", PlainFrame))
+    _fields_ = (("time", ctypes.c_uint64), ("port", ctypes.c_uint64), ("frame", PlainFrame))
 
 
 class HitKind(enum.IntEnum):
@@ -62,8 +71,9 @@ class PlainHit(ctypes.Structure):
         ("time", ctypes.c_uint64),
         ("attempt", ctypes.c_uint64),
         ("offset", ctypes.c_uint64),
-        ("port", ctypes.c_size_t),
+        ("port", ctypes.c_uint64),
         ("kind", ctypes.c_uint8),
+        ("unused", ctypes.c_uint8 * 7),
     )
 
 
@@ -75,6 +85,7 @@ class PlainWire(ctypes.Structure):
         ("attempts", ctypes.c_uint64),
         ("start", ctypes.c_uint64),
         ("until_rest", ctypes.c_uint8),
+        ("unused", ctypes.c_uint8 * 7),
     )
 
 
@@ -90,17 +101,52 @@ class PlainStanding(ctypes.Structure):
 
 
 class PlainPort(ctypes.Structure):
-    """A riddlesage_port."""
+    """A riddlesage_port. Its address has the width of the machine, and is followed by unused bytes up to 24."""
 
-    _fields_ = (("at", ctypes.c_void_p), ("live", ctypes.c_bool), ("self", ctypes.c_void_p))
+    _fields_ = (
+        ("at", ctypes.c_uint64),
+        ("live", ctypes.c_uint8),
+        ("unused", ctypes.c_uint8 * 7),
+        ("self", ctypes.c_void_p),
+        ("unused_end", ctypes.c_uint8 * (8 - ctypes.sizeof(ctypes.c_void_p))),
+    )
+
+
+class PlainPortTime(ctypes.Structure):
+    """A riddlesage_port_time."""
+
+    _fields_ = (
+        ("transmit", ctypes.c_uint16),
+        ("receive", ctypes.c_uint16),
+        ("phase", ctypes.c_uint8),
+        ("sender", ctypes.c_uint8),
+        ("drives", ctypes.c_uint8),
+        ("samples", ctypes.c_uint8),
+        ("event", ctypes.c_uint8),
+        ("unused", ctypes.c_uint8),
+    )
+
+
+class PlainWrong(ctypes.Structure):
+    """A riddlesage_wrong."""
+
+    _fields_ = (("field", ctypes.c_char * FIELD_ROOM), ("words", ctypes.c_char * WORDS_ROOM))
+
+
+class PlainCoverage(ctypes.Structure):
+    """A riddlesage_coverage."""
+
+    _fields_ = (("counts", ctypes.c_uint64 * COVERAGE_ITEMS),)
 
 
 _PORT = ctypes.POINTER(PlainPort)
 _FRAME = ctypes.POINTER(PlainFrame)
 _U8 = ctypes.POINTER(ctypes.c_uint8)
 _SIZE = ctypes.POINTER(ctypes.c_size_t)
-# The input and its length; the buffer for a text, its capacity, and the length of the text.
-_DOCUMENT = (ctypes.c_char_p, ctypes.c_size_t, ctypes.c_char_p, ctypes.c_size_t, _SIZE)
+# The address and the length of an input.
+_INPUT = (ctypes.c_char_p, ctypes.c_size_t)
+# The buffer for a text, its capacity, and the length of the text.
+_OUTPUT = (ctypes.c_char_p, ctypes.c_size_t, _SIZE)
 
 _PARAMETERS = {
     "riddlesage_port_idle": (_PORT, ctypes.c_size_t, ctypes.c_size_t),
@@ -141,12 +187,31 @@ _PARAMETERS = {
     "riddlesage_encode": (_FRAME, ctypes.c_char_p, ctypes.c_size_t, _SIZE),
     "riddlesage_decode": (ctypes.c_char_p, ctypes.c_size_t, ctypes.POINTER(PlainHeard), _SIZE),
     "riddlesage_marks": (ctypes.c_char_p, ctypes.c_size_t, ctypes.c_char_p, ctypes.c_char_p, _SIZE),
-    "riddlesage_run": (*_DOCUMENT, ctypes.c_char_p),
-    "riddlesage_decode_trace": (*_DOCUMENT, _SIZE),
-    "riddlesage_decode_levels": (*_DOCUMENT, _SIZE),
+    "riddlesage_run": (*_INPUT, *_OUTPUT, ctypes.c_char_p),
+    "riddlesage_port_times": (
+        *_INPUT,
+        ctypes.c_size_t,
+        ctypes.POINTER(PlainPortTime),
+        ctypes.c_size_t,
+        _SIZE,
+        ctypes.c_char_p,
+    ),
+    "riddlesage_plan": (*_INPUT, ctypes.c_uint8, *_OUTPUT, _SIZE, ctypes.POINTER(PlainWrong)),
+    "riddlesage_worst_case": (*_INPUT, *_INPUT, *_OUTPUT, ctypes.POINTER(PlainWrong)),
+    "riddlesage_decode_trace": (*_INPUT, *_OUTPUT, _SIZE),
+    "riddlesage_decode_levels": (*_INPUT, *_OUTPUT, _SIZE),
+    "riddlesage_coverage_sample": (_PORT, ctypes.POINTER(PlainCoverage), ctypes.c_uint8, _U8, _FRAME),
 }
 
-_NAMES = ("status", "event", "phase", "rule")
+# The calls that return a text, with the type of the number that each takes.
+_TEXTS = {
+    "riddlesage_status_name": ctypes.c_int,
+    "riddlesage_event_name": ctypes.c_int,
+    "riddlesage_phase_name": ctypes.c_int,
+    "riddlesage_rule_name": ctypes.c_int,
+    "riddlesage_coverage_name": ctypes.c_size_t,
+    "riddlesage_coverage_case": ctypes.c_size_t,
+}
 
 
 class MissingLibrary(ImportError):
@@ -190,9 +255,9 @@ def _loaded() -> ctypes.CDLL:
             raise MissingLibrary(f"{found._name} is older than this package: it has no {name}")
         function.argtypes = parameters
         function.restype = ctypes.c_int
-    for named in _NAMES:
-        function = getattr(found, f"riddlesage_{named}_name")
-        function.argtypes = (ctypes.c_int,)
+    for name, number in _TEXTS.items():
+        function = getattr(found, name)
+        function.argtypes = (number,)
         function.restype = ctypes.c_char_p
     found.riddlesage_version.argtypes = ()
     found.riddlesage_version.restype = ctypes.c_char_p

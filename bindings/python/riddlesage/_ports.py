@@ -12,7 +12,7 @@ from typing import NamedTuple, NoReturn
 
 from riddlesage._buffers import Buffer, Room, bytes_at
 from riddlesage._frames import Frame, Refused, Status, demand, frame_of, in_range, plain_of
-from riddlesage._library import PlainFrame, PlainPort, PlainStanding, lib
+from riddlesage._library import SIZE_BITS, PlainFrame, PlainPort, PlainStanding, lib
 
 
 class Event(enum.IntEnum):
@@ -145,7 +145,7 @@ class Port:
         rooms = operator.index(queue), operator.index(log)
         if min(rooms) < 0:
             raise ValueError("the capacity of queue or log cannot be negative")
-        if max(rooms) >= 1 << 63:
+        if max(rooms) >= 1 << SIZE_BITS - 1:
             raise MemoryError
         self._lock = threading.Lock()
         # These two are called in each bit time. Their arguments are made once per port, with the right types, so that
@@ -287,7 +287,7 @@ class Port:
     def entry(self, number: int) -> Entry:
         """The entry of the log with this number, the oldest being 0."""
         frame, sent = PlainFrame(), ctypes.c_uint8()
-        place = in_range(number, 64, Refused(Status.NO_ENTRY))
+        place = in_range(number, SIZE_BITS, Refused(Status.NO_ENTRY))
         with self._lock:
             demand(lib.riddlesage_port_entry(self._port, place, frame, sent))
         return Entry(frame_of(frame), bool(sent.value))

@@ -32,7 +32,7 @@ from typing import TYPE_CHECKING
 from riddlesage._commands import end_with, opened, require_library
 from riddlesage._frames import Refused, Status, demand, frame_of
 from riddlesage._kit import KitNotFoundError, kit, played, recorded
-from riddlesage._library import PlainFrame, PlainPort, lib
+from riddlesage._library import COVERAGE_ITEMS, PlainCoverage, PlainFrame, lib
 from riddlesage._ports import Event, Port, Reported
 
 if TYPE_CHECKING:
@@ -41,32 +41,10 @@ if TYPE_CHECKING:
 if __name__ == "__main__":
     require_library()  # which is asked for names as soon as this module is loaded
 
-ITEMS = 64
-# A case has at most so many frames.
+ITEMS = COVERAGE_ITEMS
+# The most frames of a case.
 _MOST_QUEUED = 256
 _LINE = re.compile(r"\bcoverage ([0-9]{1,20}) ([A-Z][A-Za-z ,]*)")
-
-
-class PlainCoverage(ctypes.Structure):
-    """A riddlesage_coverage."""
-
-    _fields_ = (("counts", ctypes.c_uint64 * ITEMS),)
-
-
-if not hasattr(lib, "riddlesage_coverage_sample"):
-    raise ImportError("libriddlesage.so is older than this package: it has no rule coverage")
-
-lib.riddlesage_coverage_sample.argtypes = (
-    ctypes.POINTER(PlainPort),
-    ctypes.POINTER(PlainCoverage),
-    ctypes.c_uint8,
-    ctypes.POINTER(ctypes.c_uint8),
-    ctypes.POINTER(PlainFrame),
-)
-lib.riddlesage_coverage_sample.restype = ctypes.c_int
-for _function in (lib.riddlesage_coverage_name, lib.riddlesage_coverage_case):
-    _function.argtypes = (ctypes.c_size_t,)
-    _function.restype = ctypes.c_char_p
 
 # Each combination of rule, role and error state, and a case of the conformance kit in which it occurs. A case that the
 # standard set does not have is in the long one.

@@ -2,14 +2,12 @@
 
 from __future__ import annotations
 
-import ctypes
-import os
 import pathlib
 import re
 
 import pytest
 
-from riddlesage import Event, Phase, run
+from riddlesage import Phase, port_times, run
 from riddlesage._vcd import Kind, Scope, Signal, Writer
 from riddlesage.run import main
 
@@ -74,27 +72,13 @@ def test_levels_are_those_of_the_report(
         assert seen == logged
 
 
-class PortTime(ctypes.Structure):
-    """A bit time of a port, as the proved page_all_port_times of crates/can_page writes it."""
-
-    _fields_ = (
-        ("counters", ctypes.c_uint16 * 2),
-        *((name, ctypes.c_uint8) for name in ("phase", "transmitter", "drives", "samples", "event")),
-    )
-
-
-@pytest.mark.skipif("PORT_TIMES" not in os.environ, reason="bindings/python/check sets PORT_TIMES")
 @pytest.mark.parametrize("scenario", SCENARIOS, ids=[it.stem for it in SCENARIOS])
 def test_waves_are_the_port_times(scenario: pathlib.Path, tmp_path: pathlib.Path) -> None:
     """Each value of each port in each bit time is that of the proved function."""
     names, times, rows = read_back(waves(scenario, tmp_path, "--bitrate", "1000000"))
-    text, count = scenario.read_bytes(), ctypes.c_size_t()
-    due = (PortTime * (10**6))()
-    call = ctypes.CDLL(os.environ["PORT_TIMES"]).page_all_port_times
-    call.restype = ctypes.c_uint8
-    assert call(text, ctypes.c_size_t(len(text)), due, ctypes.c_size_t(len(due)), ctypes.byref(count)) == 0
     ports = sum(name.endswith("_drives") for name in names)
-    bits = count.value // ports
+    due = [port_times(scenario.read_bytes(), place) for place in range(ports)]
+    bits = len(due[0])
     assert times[-1] == bits * 10
     row, at = rows[0], dict(zip(times[:-1], rows))
     for time in range(bits):
@@ -102,11 +86,11 @@ def test_waves_are_the_port_times(scenario: pathlib.Path, tmp_path: pathlib.Path
         for place in range(ports):
             own = [name for name in names if name.startswith(f"port{place}_")]
             values = {name.split("_", 1)[1]: row[names.index(name)] for name in own}
-            of = due[place * bits + time]
+            of = due[place][time]
             given = values["tec"], values["rec"], values["transmitter"], values["drives"], values["samples"]
-            assert given == (*map(str, of.counters), str(of.transmitter), str(of.drives), str(of.samples))
+            assert given == (*map(str, of.counters), str(int(of.sender)), str(of.drives), str(of.samples))
             assert Phase[values["phase"].upper().replace("-", "_")] == of.phase
-            assert values["event"].startswith(Event(of.event).name.lower().replace("_", " ") if of.event else "-")
+            assert values["event"].startswith(of.event.name.lower().replace("_", " ") if of.event else "-")
 
 
 def test_many_signals_and_texts(tmp_path: pathlib.Path) -> None:

@@ -1,6 +1,6 @@
-//! Ports on a bus that runs with one call, and a bus that is stepped bit time by bit time.
+//! Ports on a bus that runs with one call, and a bus that runs bit time by bit time, or to the next event.
 
-use crate::{sys, Frame, Level, Port, Refused};
+use crate::{sys, Event, Frame, Level, Port, Refused};
 
 /// A frame that is queued at a port while the bus runs.
 #[derive(Clone, Copy, Debug, PartialEq, Eq, Hash)]
@@ -106,6 +106,15 @@ pub fn play(ports: &mut [Port], bits: usize, offers: &[Offer], hits: &[Hit]) -> 
     Ok(Played { levels: levels.into_iter().map(Level::of).collect(), refused })
 }
 
+/// The result of [`Wire::run`].
+#[derive(Clone, Debug, PartialEq, Eq, Hash)]
+pub struct Ran {
+    /// How many bit times have passed.
+    pub passed: usize,
+    /// The event of each port in the last of them, if there was one.
+    pub events: Vec<Option<Event>>,
+}
+
 /// The state of a bus between two bit times, without its nodes: for a bus on which some nodes are your own code.
 ///
 /// At first no bit time has passed, and the bus counts as recessive for eleven.
@@ -176,5 +185,50 @@ impl Wire {
             )
         })?;
         Ok(Level::of(level))
+    }
+
+    /// Passes bit times of a bus of 1 to 64 ports until one of them has an event, but at most `bits`.
+    ///
+    /// The hits may be in any order, and differ from call to call.
+    ///
+    /// ```
+    /// use riddlesage::{Event, Frame, Port, Refused, Wire};
+    ///
+    /// let mut ports = [Port::idle(16, 64)?, Port::idle(16, 64)?];
+    /// let frame = Frame::standard(0x123, &[0xaa, 0x55])?;
+    /// ports[0].offer(&frame)?;
+    /// let ran = Wire::new().run(&mut ports, &[], 1000)?;
+    /// assert_eq!((ran.passed, ran.events), (61, vec![None, Some(Event::Received(frame))]));
+    /// # Ok::<(), Refused>(())
+    /// ```
+    ///
+    /// # Errors
+    ///
+    /// Nothing has changed if it fails:
+    ///
+    /// - [`Refused::BadBus`]: there are no ports, or more than 64;
+    /// - [`Refused::NoSuchPort`] for a view of no port.
+    pub fn run(&mut self, ports: &mut [Port], hits: &[Hit], bits: usize) -> Result<Ran, Refused> {
+        let at: Vec<_> = ports.iter().map(Port::place).collect();
+        let hits: Vec<_> = hits.iter().map(|hit| hit.plain()).collect();
+        let (mut events, mut frames) = ([0; sys::MOST_PORTS], [sys::Frame::default(); sys::MOST_PORTS]);
+        let mut passed = 0;
+        // SAFETY: the ports are live, and no two are the same, because they are borrowed here; references satisfy what
+        // the header requires of pointers, and a bus has no more ports than the arrays have elements
+        Refused::of(unsafe {
+            sys::riddlesage_wire_run(
+                &mut self.plain,
+                at.as_ptr(),
+                at.len(),
+                hits.as_ptr(),
+                hits.len(),
+                bits,
+                events.as_mut_ptr(),
+                frames.as_mut_ptr(),
+                &mut passed,
+            )
+        })?;
+        let events = events.iter().zip(&frames).take(at.len()).map(|(code, frame)| Event::of(*code, frame)).collect();
+        Ok(Ran { passed, events })
     }
 }

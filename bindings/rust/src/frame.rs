@@ -292,3 +292,96 @@ pub fn decode(levels: &[Level]) -> Result<Heard, Fault> {
     };
     Err(Fault { kind, place })
 }
+
+/// The field of a frame in which a level is (3.2.1).
+#[derive(Clone, Copy, Debug, PartialEq, Eq, Hash)]
+pub enum Field {
+    /// Start of frame.
+    StartOfFrame,
+    /// Identifier.
+    Identifier,
+    /// RTR or SRR, if the levels end before the IDE bit.
+    RtrOrSrr,
+    /// RTR.
+    Rtr,
+    /// SRR.
+    Srr,
+    /// IDE.
+    Ide,
+    /// The reserved bit r1.
+    R1,
+    /// The reserved bit r0.
+    R0,
+    /// The data length code, DLC.
+    DataLengthCode,
+    /// The data bytes.
+    Data,
+    /// The CRC sequence.
+    CrcSequence,
+    /// The CRC delimiter.
+    CrcDelimiter,
+    /// The ACK slot.
+    AckSlot,
+    /// The ACK delimiter.
+    AckDelimiter,
+    /// End of frame.
+    EndOfFrame,
+}
+
+impl Field {
+    fn of(code: u8) -> Self {
+        match code {
+            0 => Self::StartOfFrame,
+            1 => Self::Identifier,
+            2 => Self::RtrOrSrr,
+            3 => Self::Rtr,
+            4 => Self::Srr,
+            5 => Self::Ide,
+            6 => Self::R1,
+            7 => Self::R0,
+            8 => Self::DataLengthCode,
+            9 => Self::Data,
+            10 => Self::CrcSequence,
+            11 => Self::CrcDelimiter,
+            12 => Self::AckSlot,
+            13 => Self::AckDelimiter,
+            14 => Self::EndOfFrame,
+            _ => unreachable!("riddlesage returns field {code}"),
+        }
+    }
+}
+
+/// What a level is.
+#[derive(Clone, Copy, Debug, PartialEq, Eq, Hash)]
+pub struct Mark {
+    /// Its field. A stuff bit has that of the level before it.
+    pub field: Field,
+    /// Whether it is a stuff bit.
+    pub stuffed: bool,
+}
+
+/// Names the field of each level of a frame, and its stuff bits.
+///
+/// Levels have a mark from a start of frame on, to the end of the frame, or to a wrong stuff bit. If the first level is
+/// recessive, none has one. It reads at most the first 157 levels: no frame has more.
+///
+/// # Panics
+///
+/// Never: a [`Level`] is 0 or 1.
+#[must_use]
+pub fn marks(levels: &[Level]) -> Vec<Mark> {
+    let (mut fields, mut stuffed, mut count) = ([0; sys::MOST_LEVELS], [0; sys::MOST_LEVELS], 0);
+    // SAFETY: a Level is a byte; each argument is of its size, and no two overlap
+    let status = unsafe {
+        sys::riddlesage_marks(
+            levels.as_ptr().cast(),
+            levels.len(),
+            fields.as_mut_ptr(),
+            stuffed.as_mut_ptr(),
+            &mut count,
+        )
+    };
+    assert_eq!(status, sys::OK, "levels are 0 or 1");
+    let mark = |(field, stuffed): (&u8, &u8)| Mark { field: Field::of(*field), stuffed: *stuffed != 0 };
+    fields.iter().zip(&stuffed).take(count).map(mark).collect()
+}

@@ -27,19 +27,23 @@
 //! types exclude most invalid arguments, so few calls can fail.
 
 mod bus;
+mod coverage;
 mod frame;
+mod network;
 mod port;
 mod sys;
 mod text;
 
 use std::error::Error;
-use std::ffi::CStr;
+use std::ffi::{c_char, CStr};
 use std::fmt;
 
-pub use bus::{play, Hit, Offer, Played, Wire};
-pub use frame::{decode, encode, Fault, FaultKind, Frame, Heard, Level};
-pub use port::{Counters, Entry, Event, EventKind, Phase, Port, Rule, Standing, State};
-pub use text::{decode_levels, decode_trace, run, ScenarioFault, TraceFault};
+pub use bus::{play, Hit, Offer, Played, Ran, Wire};
+pub use coverage::Coverage;
+pub use frame::{decode, encode, marks, Fault, FaultKind, Field, Frame, Heard, Level, Mark};
+pub use network::{plan, worst_case, NetworkFault, Planned};
+pub use port::{Counters, Entry, Event, EventKind, Phase, PhaseKind, Port, Rule, Standing, State};
+pub use text::{decode_levels, decode_trace, port_times, run, PortTime, ScenarioFault, TraceFault};
 
 /// Why a call failed. It has changed nothing.
 #[derive(Clone, Copy, Debug, PartialEq, Eq, Hash)]
@@ -109,7 +113,15 @@ impl Error for Refused {}
 /// Never: it is ASCII.
 #[must_use]
 pub fn version() -> &'static str {
+    // SAFETY: the call has no argument
+    named(unsafe { sys::riddlesage_version() })
+}
+
+/// A text of the library; empty for a null pointer.
+fn named(at: *const c_char) -> &'static str {
+    if at.is_null() {
+        return "";
+    }
     // SAFETY: the library returns a string with a terminating 0, and never frees it
-    let version = unsafe { CStr::from_ptr(sys::riddlesage_version()) };
-    version.to_str().expect("a version is ASCII")
+    unsafe { CStr::from_ptr(at) }.to_str().expect("texts of the library are ASCII")
 }

@@ -1,8 +1,10 @@
 //! Ports: CAN nodes.
 
+use std::ffi::c_int;
+use std::fmt;
 use std::ptr::NonNull;
 
-use crate::{sys, Frame, Level, Refused};
+use crate::{named, sys, Frame, Level, Refused};
 
 /// The event of a bit time, as a port reports it.
 #[derive(Clone, Copy, Debug, PartialEq, Eq, Hash)]
@@ -32,7 +34,7 @@ pub enum Event {
 }
 
 impl Event {
-    fn of(code: u8, frame: &sys::Frame) -> Option<Self> {
+    pub(crate) fn of(code: u8, frame: &sys::Frame) -> Option<Self> {
         EventKind::of(code).map(|kind| match kind {
             EventKind::Sent => Self::Sent(Frame::of(frame)),
             EventKind::Received => Self::Received(Frame::of(frame)),
@@ -49,35 +51,36 @@ impl Event {
     }
 }
 
-/// The event of a bit time, without the frame that was sent or received.
+/// The event of a bit time, without the frame that was sent or received. It is displayed by its name, such as
+/// `bit error`.
 #[derive(Clone, Copy, Debug, PartialEq, Eq, Hash)]
 pub enum EventKind {
     /// A frame was transmitted.
-    Sent,
+    Sent = 1,
     /// A frame was received.
-    Received,
+    Received = 2,
     /// Arbitration was lost: the port continues as a receiver (3.2.1).
-    Lost,
+    Lost = 3,
     /// The sampled bit differs from the one that was sent (7.1).
-    BitError,
+    BitError = 4,
     /// A sixth equal bit in a row, where a stuff bit is due (7.1).
-    StuffError,
+    StuffError = 5,
     /// The CRC sequence is wrong: reported in the ACK delimiter (7.1, 7.2).
-    CrcError,
+    CrcError = 6,
     /// A bit of fixed form has the wrong level (7.1).
-    FormError,
+    FormError = 7,
     /// The transmitter sees a recessive ACK slot (7.1).
-    AckError,
+    AckError = 8,
     /// An overload flag starts with the next bit time (3.2.4).
-    Overload,
+    Overload = 9,
     /// The port is bus off from the next bit time on (8).
-    WentOff,
+    WentOff = 10,
     /// Bus off has ended: 128 times eleven recessive bits have passed (8).
-    Recovered,
+    Recovered = 11,
 }
 
 impl EventKind {
-    fn of(code: u8) -> Option<Self> {
+    pub(crate) fn of(code: u8) -> Option<Self> {
         Some(match code {
             0 => return None,
             1 => Self::Sent,
@@ -93,6 +96,62 @@ impl EventKind {
             11 => Self::Recovered,
             _ => unreachable!("riddlesage reports event {code}"),
         })
+    }
+}
+
+impl fmt::Display for EventKind {
+    fn fmt(&self, out: &mut fmt::Formatter<'_>) -> fmt::Result {
+        // SAFETY: the call takes any number
+        out.pad(named(unsafe { sys::riddlesage_event_name(*self as c_int) }))
+    }
+}
+
+/// The phase of a port before a bit time, without the place within it. It is displayed by its name, such as
+/// `end-of-frame`.
+#[derive(Clone, Copy, Debug, PartialEq, Eq, Hash)]
+pub enum PhaseKind {
+    /// Between frames, and free to send.
+    Idle = 0,
+    /// Bus integration.
+    Joining = 1,
+    /// Start of frame to CRC sequence.
+    StuffedPart = 2,
+    /// The CRC delimiter is next.
+    CrcDelimiter = 3,
+    /// The ACK slot is next.
+    AckSlot = 4,
+    /// The ACK delimiter is next.
+    AckDelimiter = 5,
+    /// End of frame.
+    EndOfFrame = 6,
+    /// Active error flag.
+    ErrorFlag = 7,
+    /// Passive error flag.
+    PassiveFlag = 8,
+    /// Overload flag.
+    OverloadFlag = 9,
+    /// After a flag, until a recessive level.
+    AfterFlag = 10,
+    /// Error or overload delimiter.
+    Delimiter = 11,
+    /// Intermission.
+    Intermission = 12,
+    /// Suspend transmission.
+    Suspend = 13,
+    /// Bus off.
+    BusOff = 14,
+}
+
+impl PhaseKind {
+    pub(crate) fn of(code: u8) -> Self {
+        Phase::of(code, 0).kind()
+    }
+}
+
+impl fmt::Display for PhaseKind {
+    fn fmt(&self, out: &mut fmt::Formatter<'_>) -> fmt::Result {
+        // SAFETY: the call takes any number
+        out.pad(named(unsafe { sys::riddlesage_phase_name(*self as c_int) }))
     }
 }
 
@@ -152,40 +211,62 @@ impl Phase {
             _ => unreachable!("riddlesage returns phase {code}"),
         }
     }
+
+    /// The phase without the place.
+    #[must_use]
+    pub fn kind(self) -> PhaseKind {
+        match self {
+            Self::Idle => PhaseKind::Idle,
+            Self::Joining(_) => PhaseKind::Joining,
+            Self::StuffedPart(_) => PhaseKind::StuffedPart,
+            Self::CrcDelimiter => PhaseKind::CrcDelimiter,
+            Self::AckSlot => PhaseKind::AckSlot,
+            Self::AckDelimiter => PhaseKind::AckDelimiter,
+            Self::EndOfFrame(_) => PhaseKind::EndOfFrame,
+            Self::ErrorFlag(_) => PhaseKind::ErrorFlag,
+            Self::PassiveFlag(_) => PhaseKind::PassiveFlag,
+            Self::OverloadFlag(_) => PhaseKind::OverloadFlag,
+            Self::AfterFlag(_) => PhaseKind::AfterFlag,
+            Self::Delimiter(_) => PhaseKind::Delimiter,
+            Self::Intermission(_) => PhaseKind::Intermission,
+            Self::Suspend(_) => PhaseKind::Suspend,
+            Self::BusOff(_) => PhaseKind::BusOff,
+        }
+    }
 }
 
-/// The rule of `docs/ACCESS.md` that decides in a bit time.
+/// The rule of `docs/ACCESS.md` that decides in a bit time. It is displayed by its name, such as `Stuff places`.
 #[derive(Clone, Copy, Debug, PartialEq, Eq, Hash)]
 #[non_exhaustive]
 pub enum Rule {
     /// Bus integration.
-    Joining,
+    Joining = 0,
     /// The start of a frame.
-    StartOfFrame,
+    StartOfFrame = 1,
     /// A transmitter after arbitration.
-    KeptFrame,
+    KeptFrame = 2,
     /// Intermission.
-    Intermission,
+    Intermission = 3,
     /// Suspend transmission.
-    SuspendTransmission,
+    SuspendTransmission = 4,
     /// Bus off.
-    BusOff,
+    BusOff = 5,
     /// A transmitter up to and including its RTR bit.
-    Arbitration,
+    Arbitration = 6,
     /// A receiver from the start of frame to the CRC sequence.
-    StuffPlaces,
+    StuffPlaces = 7,
     /// The bits of fixed form.
-    FixedForm,
+    FixedForm = 8,
     /// The ACK slot.
-    Acknowledgement,
+    Acknowledgement = 9,
     /// An active or a passive error flag.
-    ErrorFlags,
+    ErrorFlags = 12,
     /// After a flag, before the first recessive level.
-    AfterAFlag,
+    AfterAFlag = 14,
     /// The error or overload delimiter.
-    Delimiter,
+    Delimiter = 15,
     /// An overload flag.
-    OverloadFlags,
+    OverloadFlags = 16,
 }
 
 impl Rule {
@@ -207,6 +288,13 @@ impl Rule {
             16 => Self::OverloadFlags,
             _ => unreachable!("riddlesage returns rule {code}"),
         }
+    }
+}
+
+impl fmt::Display for Rule {
+    fn fmt(&self, out: &mut fmt::Formatter<'_>) -> fmt::Result {
+        // SAFETY: the call takes any number
+        out.pad(named(unsafe { sys::riddlesage_rule_name(*self as c_int) }))
     }
 }
 
@@ -314,7 +402,7 @@ impl Port {
     }
 
     /// Checks calls that cannot fail, because the port is live.
-    fn sure(status: sys::Status) {
+    pub(crate) fn sure(status: sys::Status) {
         assert_eq!(status, sys::OK, "a call of a live port failed");
     }
 

@@ -60,6 +60,31 @@ pub struct Wire {
     pub until_rest: u8,
 }
 
+#[repr(C)]
+#[derive(Clone, Copy, Default)]
+pub struct PortTime {
+    pub transmit: u16,
+    pub receive: u16,
+    pub phase: u8,
+    pub sender: u8,
+    pub drives: u8,
+    pub samples: u8,
+    pub event: u8,
+}
+
+#[repr(C)]
+#[derive(Clone, Copy)]
+pub struct Wrong {
+    pub field: [u8; FIELD_ROOM],
+    pub words: [u8; WORDS_ROOM],
+}
+
+#[repr(C)]
+#[derive(Clone, Copy, Debug, PartialEq, Eq, Hash)]
+pub struct Coverage {
+    pub counts: [u64; COVERAGE_ITEMS],
+}
+
 pub const HIT_AT: u8 = 0;
 pub const HIT_IN: u8 = 1;
 pub const HIT_VIEW: u8 = 2;
@@ -92,9 +117,17 @@ pub const BAD_BYTE: Status = 20;
 pub const BAD_BUS: Status = 21;
 pub const NO_SUCH_PORT: Status = 22;
 pub const BAD_ORDER: Status = 23;
+pub const BAD_NETWORK: Status = 26;
+pub const NO_MESSAGE: Status = 27;
+pub const TOO_LONG: Status = 28;
 
 pub const MOST_LEVELS: usize = 157;
+pub const MOST_BITS: usize = 1_000_000;
+pub const MOST_PORTS: usize = 64;
 pub const FIELD_ROOM: usize = 64;
+pub const WORDS_ROOM: usize = 192;
+pub const COVERAGE_ITEMS: usize = 64;
+pub const COVERAGE_LINE: usize = 128;
 
 extern "C" {
     pub fn riddlesage_port_new() -> *mut Port;
@@ -139,8 +172,26 @@ extern "C" {
         level: *mut u8,
         seen: *mut u8,
     ) -> Status;
+    pub fn riddlesage_wire_run(
+        wire: *mut Wire,
+        ports: *const *mut Port,
+        count: usize,
+        hits: *const Hit,
+        hit_count: usize,
+        bits: usize,
+        events: *mut u8,
+        frames: *mut Frame,
+        passed: *mut usize,
+    ) -> Status;
     pub fn riddlesage_encode(frame: *const Frame, levels: *mut u8, room: usize, count: *mut usize) -> Status;
     pub fn riddlesage_decode(levels: *const u8, count: usize, heard: *mut Heard, place: *mut usize) -> Status;
+    pub fn riddlesage_marks(
+        levels: *const u8,
+        length: usize,
+        fields: *mut u8,
+        stuffed: *mut u8,
+        count: *mut usize,
+    ) -> Status;
     pub fn riddlesage_run(
         text: *const u8,
         length: usize,
@@ -148,6 +199,35 @@ extern "C" {
         room: usize,
         count: *mut usize,
         field: *mut u8,
+    ) -> Status;
+    pub fn riddlesage_port_times(
+        text: *const u8,
+        length: usize,
+        port: usize,
+        times: *mut PortTime,
+        room: usize,
+        count: *mut usize,
+        field: *mut u8,
+    ) -> Status;
+    pub fn riddlesage_plan(
+        text: *const u8,
+        length: usize,
+        details: u8,
+        report: *mut u8,
+        room: usize,
+        count: *mut usize,
+        late: *mut usize,
+        wrong: *mut Wrong,
+    ) -> Status;
+    pub fn riddlesage_worst_case(
+        text: *const u8,
+        length: usize,
+        message: *const u8,
+        message_length: usize,
+        scenario: *mut u8,
+        room: usize,
+        count: *mut usize,
+        wrong: *mut Wrong,
     ) -> Status;
     pub fn riddlesage_decode_trace(
         text: *const u8,
@@ -165,5 +245,18 @@ extern "C" {
         count: *mut usize,
         place: *mut usize,
     ) -> Status;
+    pub fn riddlesage_coverage_sample(
+        port: *mut Port,
+        coverage: *mut Coverage,
+        level: u8,
+        event: *mut u8,
+        frame: *mut Frame,
+    ) -> Status;
+    pub fn riddlesage_coverage_name(item: usize) -> *const c_char;
+    pub fn riddlesage_coverage_case(item: usize) -> *const c_char;
+    pub fn riddlesage_coverage_line(coverage: *const Coverage, item: usize, line: *mut u8) -> Status;
+    pub fn riddlesage_event_name(event: c_int) -> *const c_char;
+    pub fn riddlesage_phase_name(phase: c_int) -> *const c_char;
+    pub fn riddlesage_rule_name(rule: c_int) -> *const c_char;
     pub fn riddlesage_version() -> *const c_char;
 }

@@ -1,8 +1,9 @@
 //! What the crate adds to `riddlesage.h`: types, refusals, ports that move and go to threads.
 
 use riddlesage::{
-    decode, decode_levels, decode_trace, encode, play, run, version, Counters, Entry, Event, EventKind, FaultKind,
-    Frame, Hit, Level, Offer, Phase, Port, Refused, Rule, ScenarioFault, Standing, State, TraceFault, Wire,
+    decode, decode_levels, decode_trace, encode, marks, plan, play, port_times, run, version, worst_case, Counters,
+    Coverage, Entry, Event, EventKind, FaultKind, Field, Frame, Hit, Level, Mark, NetworkFault, Offer, Phase,
+    PhaseKind, Port, Refused, Rule, ScenarioFault, Standing, State, TraceFault, Wire,
 };
 
 fn frame() -> Frame {
@@ -169,4 +170,91 @@ fn more_memory_than_there_is() {
 #[test]
 fn one_version() {
     assert_eq!(version(), env!("CARGO_PKG_VERSION"));
+}
+
+#[test]
+fn the_fields_of_levels() {
+    let marked = marks(&encode(&frame()));
+    assert_eq!((marked.len(), marked.iter().filter(|mark| mark.stuffed).count()), (62, 2));
+    assert_eq!(marked[0], Mark { field: Field::StartOfFrame, stuffed: false });
+    assert_eq!(marked[61], Mark { field: Field::EndOfFrame, stuffed: false });
+    assert_eq!((marks(&[]), marks(&[Level::Recessive])), (vec![], vec![]));
+    assert_eq!(marks(&[Level::Dominant; 200]).len(), 6);
+}
+
+#[test]
+fn a_bus_to_the_next_event() {
+    let mut ports = [port(1, 4), port(1, 4)];
+    let mut wire = Wire::new();
+    ports[0].offer(&frame()).expect("room for a frame");
+    assert_eq!(wire.run(&mut [], &[], 9), Err(Refused::BadBus));
+    assert_eq!(wire.run(&mut ports, &[Hit::View { time: 0, port: 2 }], 9), Err(Refused::NoSuchPort));
+    assert_eq!(wire.time(), 0);
+    let ran = wire.run(&mut ports, &[Hit::In { attempt: 0, offset: 16 }], 200).expect("a bus");
+    assert_eq!((ran.passed, ran.events), (17, vec![Some(Event::BitError), None]));
+    let mut events = Vec::new();
+    while wire.time() < 200 {
+        events.extend(wire.run(&mut ports, &[], 200).expect("a bus").events.into_iter().flatten());
+    }
+    assert_eq!(events, [Event::StuffError, Event::Received(frame()), Event::Sent(frame())]);
+    assert_eq!(wire.run(&mut ports, &[], 0).map(|ran| (ran.passed, ran.events)), Ok((0, vec![None, None])));
+}
+
+#[test]
+fn what_a_port_of_a_scenario_did() {
+    let scenario = "version = 1\nbits = 3\nport = [{ queue = ['S 001 D 0'] }, { join = true }]";
+    let times = port_times(scenario, 0).expect("a scenario");
+    assert_eq!((times.len(), times[0].phase, times[0].sender), (3, PhaseKind::Idle, false));
+    assert_eq!((times[1].phase, times[1].sender, times[1].drives), (PhaseKind::StuffedPart, true, Level::Dominant));
+    let joining = port_times(scenario, 1).expect("a scenario")[0];
+    assert_eq!(
+        (joining.phase, joining.drives, joining.samples),
+        (PhaseKind::Joining, Level::Recessive, Level::Dominant)
+    );
+    assert_eq!((joining.counters, joining.event), (Counters::default(), None));
+    assert_eq!(port_times(scenario, 2), Err(ScenarioFault::NoSuchPort));
+    assert_eq!(port_times("version = 1\nport = [{}]", 0), Err(ScenarioFault::Field("bits".to_string())));
+}
+
+#[test]
+fn bounds_and_worst_cases() {
+    let network = "version = 1\n[[message]]\nframe = 'S 100 D'\ndlc = 0\nperiod = 500\n";
+    let planned = plan(network, false).expect("a network");
+    assert!(planned.late == 0 && planned.report.starts_with("network messages 1 load "));
+    assert!(plan(network, true).expect("a network").report.contains("\n  wire "));
+    assert_eq!(plan(&format!("{network}deadline = 9"), false).map(|planned| planned.late), Ok(1));
+    let fault = plan(&format!("{network}jitter = -1"), false).expect_err("a jitter below 0");
+    assert_eq!(fault.to_string(), "bad network: message[0].jitter: must be a time of 0 to 4294967295");
+    assert_eq!(worst_case(&format!("{network}jitter = -1"), "S 100 D"), Err(fault));
+    assert!(worst_case(network, "S 100 D").expect("a network").starts_with("version = 2\n"));
+    assert_eq!(worst_case(network, "S 101 D"), Err(NetworkFault::NoMessage));
+    assert_eq!(worst_case(network, ""), Err(NetworkFault::NoMessage));
+    let overload = format!("{network}[[message]]\nframe = 'S 101 D'\nperiod = 9");
+    assert_eq!(worst_case(&overload, "S 101 D"), Err(NetworkFault::Endless));
+}
+
+#[test]
+fn rules_that_a_port_applies() {
+    let (mut port, mut coverage) = (port(1, 0), Coverage::new());
+    port.offer(&frame()).expect("room for a frame");
+    let level = port.drive();
+    assert_eq!(coverage.sample(&mut port, level), None);
+    let start = (0..Coverage::ITEMS).find(|item| coverage.counts()[*item] == 1).expect("a rule");
+    assert_eq!(Coverage::name(start), Some("Start of frame, transmitter active"));
+    assert_eq!((Coverage::case(start), Coverage::name(Coverage::ITEMS)), (Some("start-first"), None));
+    let mut sum = Coverage::default();
+    sum += &coverage;
+    sum += &coverage;
+    assert_eq!(sum.line(start), "coverage 2 Start of frame, transmitter active");
+    assert_eq!(Coverage::case(Coverage::ITEMS), None);
+}
+
+#[test]
+fn names() {
+    assert_eq!((EventKind::Sent.to_string(), EventKind::Recovered.to_string()), ("sent".into(), "recovered".into()));
+    assert_eq!((PhaseKind::Idle.to_string(), Phase::BusOff(3).kind().to_string()), ("idle".into(), "bus-off".into()));
+    assert_eq!(
+        (Rule::Joining.to_string(), Rule::OverloadFlags.to_string()),
+        ("Joining".into(), "Overload flags".into())
+    );
 }

@@ -22,6 +22,22 @@ export interface Marks {
   stuffed: Uint8Array;
 }
 
+/** What a port of a scenario did in a bit time. docs/NAMES.md lists the numbers of phases and events. */
+export interface PortTime {
+  /** The transmit and the receive error counter before the bit time. */
+  transmit: number;
+  receive: number;
+  /** The number of its phase before the bit time. */
+  phase: number;
+  /** Whether it was the transmitter of the frame on the bus. */
+  sender: boolean;
+  /** The levels that it drove and sampled: 0 is dominant. */
+  drives: number;
+  samples: number;
+  /** The number of the event; 0 is none. */
+  event: number;
+}
+
 /** The reference model. One call runs at a time. */
 export interface Riddlesage {
   /** The levels that the transmitter of a frame drives, such as `S 123 D 2 aa55`: 0 is dominant. */
@@ -32,6 +48,8 @@ export interface Riddlesage {
   decode(text: string): string;
   /** The report of a scenario in TOML, as `canbit run` prints it. */
   run(text: string): string;
+  /** What a port of a scenario did in each bit time; the first port is 0. */
+  portTimes(text: string, port: number): PortTime[];
   /** The result for a network in TOML, as `canplan` prints it, and how many messages are late. */
   plan(text: string, options?: { details?: boolean }): { late: number; lines: string };
   /** The worst case of a message, such as `S 123 D`, as a scenario. */

@@ -1,5 +1,5 @@
 /** The calls of the proved module, for texts. Types and descriptions are in riddlesage.d.ts. */
-import { ANSWER, Core, MOST_BYTES, MOST_DOCUMENT } from './core.js';
+import { ANSWER, Core, MOST_BYTES, MOST_DOCUMENT, TIME_BYTES } from './core.js';
 
 const NAMES = Object.fromEntries(Object.entries(ANSWER).map(([name, number]) => [number, name]));
 const encoder = new TextEncoder();
@@ -18,6 +18,14 @@ function bytesOf(text, most) {
   const bytes = encoder.encode(text);
   if (bytes.length > most) throw new Refused(ANSWER.tooLong);
   return bytes;
+}
+
+/** What a port did in the bit time whose bytes begin here (`PlainTime` of can_page). */
+function timeAt(view, at) {
+  return {
+    transmit: view.getUint16(at, true), receive: view.getUint16(at + 2, true), phase: view.getUint8(at + 4), sender: view.getUint8(at + 5) !== 0,
+    drives: view.getUint8(at + 6), samples: view.getUint8(at + 7), event: view.getUint8(at + 8),
+  };
 }
 
 class Riddlesage {
@@ -47,6 +55,16 @@ class Riddlesage {
     const { answer, wrong, report } = this.#core.run(bytesOf(text, MOST_DOCUMENT));
     if (answer !== ANSWER.done) throw new Refused(answer, answer === ANSWER.badScenario ? wrong : {});
     return decoder.decode(report);
+  }
+
+  portTimes(text, port) {
+    const bytes = bytesOf(text, MOST_DOCUMENT);
+    // a number that is none would become 0 in the module
+    if (!Number.isInteger(port) || port < 0 || port > 0xffffffff) throw new Refused(ANSWER.noPort);
+    const { answer, times } = this.#core.portTimes(bytes, port);
+    if (answer !== ANSWER.done) throw new Refused(answer, answer === ANSWER.badScenario ? this.#core.run(bytes).wrong : {});
+    const view = new DataView(times.buffer, times.byteOffset, times.length);
+    return Array.from({ length: times.length / TIME_BYTES }, (_, time) => timeAt(view, time * TIME_BYTES));
   }
 
   plan(text, { details = false } = {}) {
