@@ -1,0 +1,97 @@
+-- How one controller signals a wrong bit. (Bosch CAN 2.0 part B, sections 3.1.3, 7.1 and 7.2)
+use Rattle.std.specs.Prelude.{ℕ, suc, ◌≡◌, ◌+◌, ◌<◌, ◌≤◌, ◌⊎◌, ◌==◌, if◌then◌else◌, Option, Some, None, List, [], ◌∷◌}
+use Rattle.can_frame.specs.declared.level.Level.{Level}
+use Rattle.can_frame.specs.declared.level.Level.TheVariants.{Dominant, Recessive}
+use Rattle.can_frame.specs.Parts.{Parts}
+use Rattle.can_wire.specs.Layout.{level_at}
+use Rattle.can_code.specs.Front.{FrontParts}
+use Rattle.can_fault.specs.declared.cause.Cause.TheVariants.{SenderError}
+use Rattle.can_fault.specs.Counters.{counted}
+use Rattle.can_terms.specs.declared.event.Event.TheVariants.{Error}
+use Rattle.can_terms.specs.declared.event.ErrorKind.{ErrorKind}
+use Rattle.can_terms.specs.declared.event.ErrorKind.TheVariants.{Bit, Stuff, Form, Crc}
+use Rattle.can_terms.specs.declared.phase_kind.PhaseKind.TheVariants as kind
+use Rattle.can_mac.specs.declared.phase.Reading.{Reading}
+use Rattle.can_mac.specs.declared.phase.Role.TheVariants.{Sender}
+use Rattle.can_mac.specs.declared.phase.Phase.TheVariants.{Idle, CrcDelimiter, AckDelimiter, EndOfFrame, ErrorFlag}
+use Rattle.can_mac.specs.State.{MacPhase, MacState, kind_of}
+use Rattle.can_mac.specs.Machine.{mac_drives, mac_step}
+use Rattle.can_mac.specs.Frames.{IsActive, state_after, told_at, driven_at}
+
+-- A transmitter.
+
+-- the error active transmitter of f
+pub record IsTransmitter (f : Parts) (m : MacState) : Type 0 where
+  pub role : m.role ≡ Sender f
+  pub active : IsActive m.counters
+
+-- a delimiter of a frame, or its end of frame
+pub data IsFixedForm : MacPhase → Type 0 where
+  crc_delimiter : (r : Reading) → IsFixedForm (CrcDelimiter r)
+  ack_delimiter : (r : Reading) → IsFixedForm (AckDelimiter r)
+  end_of_frame : (r : Reading) (place : ℕ) → IsFixedForm (EndOfFrame r place)
+
+-- the error if the level after this front is inverted: after five equal levels it is a stuff bit
+abbrev pub own_bit_error : FrontParts → ErrorKind
+own_bit_error front = if front.run == 5 then Stuff else Bit
+
+-- the transmitter's next state: an active error flag starts, and the error is counted
+abbrev pub flagging : MacState → MacState
+flagging m = record m { phase = ErrorFlag 0; counters = counted SenderError m.counters }
+
+-- A receiver.
+
+-- a dominant level overrides a recessive one
+abbrev pub over : Level → Level → Level
+over Dominant x = Dominant
+over Recessive x = x
+
+-- the levels that a controller samples if others leave these on the bus: dominant also wherever it drives dominant
+abbrev pub sampled : MacState → (ℕ → Option Parts) → List Level → List Level
+sampled m waits [] = []
+sampled m waits (x ∷ others) =
+    over x (mac_drives m (waits 0)) ∷ sampled (mac_step m (waits 0) (over x (mac_drives m (waits 0)))).0 (λ t. waits (suc t)) others
+
+-- error active, idle, and without a pending frame as a frame begins
+pub record IsReady (m : MacState) (waits : ℕ → Option Parts) : Type 0 where
+  pub idle : m.phase ≡ Idle
+  pub active : IsActive m.counters
+  pub none : waits 0 ≡ None
+
+-- What a controller does while others leave these levels on the bus.
+module _ (m : MacState) (waits : ℕ → Option Parts) (others : List Level) where
+  abbrev levels : List Level
+  levels = sampled m waits others
+
+  -- it drives recessive in this bit time, or this is its ACK slot
+  abbrev pub DrivesInSlot : (slot t : ℕ) → Type 0
+  DrivesInSlot slot t = (driven_at m waits levels t ≡ Recessive) ⊎ ((t ≡ slot) × (kind_of (state_after m waits levels t) ≡ kind.AckSlot))
+
+  -- Before bit time t it reports no event, so it has accepted no frame. It drives dominant at most in its ACK slot.
+  pub record IsQuietBefore (slot t : ℕ) : Type 0 where
+    pub silent : (o : ℕ) → o < t → told_at m waits levels o ≡ None
+    pub drives : (o : ℕ) → o < t → DrivesInSlot slot o
+
+  -- in bit time t it reports an error, and starts an active error flag; n is the place of the frame's CRC delimiter
+  pub record ReportsError (n t : ℕ) : Type 0 where
+    pub kind : ErrorKind
+    pub told : told_at m waits levels t ≡ Some (Error kind)
+    pub flag : (state_after m waits levels (suc t)).phase ≡ ErrorFlag 0
+    -- only a CRC error comes as late as the sixth bit of the end of frame
+    pub kind_is : (kind ≡ Crc) ⊎ (((kind ≡ Stuff) ⊎ (kind ≡ Form)) × (t ≤ n + 7))
+
+  -- In bit time t it drives its ACK slot dominant, in one of the first five bits of the frame's end of frame. There the
+  -- others leave the level recessive, so to them this is a form error, or a bit error.
+  pub record BreaksEnd (n t : ℕ) : Type 0 where
+    pub drives : driven_at m waits levels t ≡ Dominant
+    pub recessive : level_at others t ≡ Recessive
+    pub least : n + 3 ≤ t
+    pub most : t ≤ n + 7
+
+  -- one of the two, at the latest in the sixth bit of the end of frame
+  pub record IsSignalled (n : ℕ) : Type 0 where
+    pub t : ℕ
+    pub within : t ≤ n + 8
+    pub slot : ℕ
+    pub before : IsQuietBefore slot t
+    pub signals : ReportsError n t ⊎ BreaksEnd n t

@@ -1,0 +1,58 @@
+//! Laws: functions with an empty body, whose contracts are the laws.
+ghost use Rattle.std.specs.Prelude.{ℕ, ◌≡◌, ◌<◌, ◌⊎◌, ◌++◌, true, false, length, List, Option, Some};
+ghost use Rattle.can_frame.specs.declared.level.Level.{Level as Bit};
+ghost use Rattle.can_frame.specs.declared.level.Level.TheVariants.{Dominant, Recessive};
+ghost use Rattle.can_frame.specs.Levels.{opposite};
+ghost use Rattle.can_frame.specs.Parts.{Parts};
+ghost use Rattle.can_wire.specs.Heard.{HeardParts, Spells};
+ghost use Rattle.can_wire.specs.Layout.{level_at};
+ghost use Rattle.can_code.specs.Front.{FrontParts};
+ghost use Rattle.can_terms.specs.declared.event.Event.TheVariants.{Error};
+ghost use Rattle.can_terms.specs.declared.event.ErrorKind.TheVariants.{Ack, Bit as BitError};
+ghost use Rattle.can_mac.specs.declared.phase.Phase.TheVariants.{StuffedPart, AckSlot};
+ghost use Rattle.can_mac.specs.declared.phase.Reading.{Reading};
+ghost use Rattle.can_mac.specs.State.{MacState};
+ghost use Rattle.can_mac.specs.Moves.{in_arbitration};
+ghost use Rattle.can_mac.specs.Machine.{mac_drives, mac_step};
+ghost use Rattle.can_mac.specs.Frames.{driven_at};
+ghost use Rattle.can_detection.specs.WrongBit.{inverted_at, crc_delimiter};
+ghost use Rattle.can_signalling.specs.Signalling.{IsTransmitter, IsFixedForm, own_bit_error, flagging, over, sampled, IsReady, IsSignalled};
+
+/// An error active transmitter that samples one of its own bits inverted reports an error in this bit time. An active
+/// error flag starts with the next one, and TEC has risen by 8.
+///
+/// - `stuffed_part`: a bit after arbitration, or any dominant bit. An inverted stuff bit is a stuff error, any other a
+///   bit error.
+/// - `ack_slot`: here the transmitter drives recessive, and a recessive level is the error: nobody acknowledges.
+/// - `fixed_form`: a dominant delimiter or level of the end of frame, the last one too, is a bit error.
+pub fn a_transmitter_signals_each_wrong_bit()
+    ensures stuffed_part { (f : Parts) (front : FrontParts) (m : MacState) (waiting : Option Parts)
+        → IsTransmitter f m → m.phase ≡ StuffedPart front
+        → (in_arbitration f front.unstuffed ≡ false) ⊎ (mac_drives m waiting ≡ Dominant)
+        → mac_step m waiting (opposite (mac_drives m waiting)) ≡ (flagging m, Some (Error (own_bit_error front))) }
+    ensures ack_slot { (f : Parts) (r : Reading) (m : MacState) (waiting : Option Parts)
+        → IsTransmitter f m → m.phase ≡ AckSlot r
+        → mac_step m waiting Recessive ≡ (flagging m, Some (Error Ack)) }
+    ensures fixed_form { (f : Parts) (m : MacState) (waiting : Option Parts)
+        → IsTransmitter f m → IsFixedForm m.phase
+        → mac_step m waiting (opposite (mac_drives m waiting)) ≡ (flagging m, Some (Error BitError)) }
+    ensures flag { (m : MacState) (waiting : Option Parts) → mac_drives (flagging m) waiting ≡ Dominant }
+{}
+
+/// An error active receiver samples an acknowledged frame with one level of its stuffed part inverted, and dominant in
+/// each bit time in which it drives dominant itself. Then there is a bit time, at the latest that of the sixth bit of
+/// the end of frame, with this:
+///
+/// - Before it the receiver has reported no event. So it has accepted no frame. It has driven dominant at most in its ACK
+///   slot.
+/// - In it the receiver reports a stuff, form or CRC error, and an active error flag starts with the next one. Or it
+///   drives its ACK slot dominant in one of the first five bits of the end of frame, which the others leave recessive.
+pub fn a_receiver_signals_one_wrong_level()
+    ensures signals { (h : HeardParts) (w : List Bit) (p : ℕ) (rest : List Bit) (m : MacState) (waits : ℕ → Option Parts)
+        → Spells h w → h.acked ≡ true → 0 < p → p < crc_delimiter w
+        → IsReady m waits
+        → IsSignalled m waits (inverted_at p w ++ rest) (crc_delimiter w) }
+    ensures samples { (m : MacState) (waits : ℕ → Option Parts) (others : List Bit) (t : ℕ)
+        → t < length others
+        → level_at (sampled m waits others) t ≡ over (level_at others t) (driven_at m waits (sampled m waits others) t) }
+{}

@@ -1,0 +1,13 @@
+//! How one controller signals a wrong bit: the error that it reports, and its error flag. This crate has laws alone.
+//! (Bosch CAN 2.0 part B, sections 3.1.3, 7.1 and 7.2)
+//!
+//! | File | What it has | Defined in |
+//! |---|---|---|
+//! | `laws.rt` | a transmitter that samples one of its own bits inverted; a receiver that samples one level of a frame inverted | `specs/Signalling.antt`, can_mac's `specs/Machine.antt` and `specs/Frames.antt`, can_detection's `specs/WrongBit.antt` |
+//!
+//! `proofs/Lib.antt` lists the lemmas, with the contents of each file.
+#![tactic(auto)]
+
+mod laws;
+
+pub use laws::{a_receiver_signals_one_wrong_level, a_transmitter_signals_each_wrong_bit};
