@@ -24,7 +24,7 @@ use Rattle.can_mac.specs.Machine.{mac_step, on_step, phase_drives, stance, state
 use Rattle.can_mac.specs.Frames.{IsActive}
 use Rattle.can_mac.proofs.FrameEnds.{active-on, on-received}
 use Rattle.can_mac.proofs.FrameParts.{part_state}
-use Rattle.can_signalling.specs.Signalling.{over, IsReady, IsSignalled}
+use Rattle.can_signalling.specs.Signalling.{over, IsReady, IsSignalledIn}
 use Rattle.can_signalling.proofs.Errors.{errs-lands}
 use Rattle.can_signalling.proofs.Sampled.{over-dominant}
 use Rattle.can_signalling.proofs.Walks.{Walks, Listens, Walks-next, Walks-step, Walks-told, Walks-flag, Walks-driven}
@@ -144,7 +144,7 @@ module _ (m : MacState) (waits : ℕ → Option Parts) (others : List Level) (re
   wishes = record { pending = m.overloads.pending; used = 0 }
 
   abbrev Signalled : Type 0
-  Signalled = IsSignalled m waits others n
+  Signalled = (t : ℕ) × (t ≤ n + 8) × IsSignalledIn m waits others n t
 
   -- a dominant level comes by the fifth bit of the end of frame
   early : (t : ℕ) → t ≤ n + 8 → level_at others t ≡ Dominant → t ≤ n + 7
@@ -156,22 +156,23 @@ module _ (m : MacState) (waits : ℕ → Option Parts) (others : List Level) (re
   -- an error in this phase, at a level of the others
   module _ (slot t : ℕ) (phase : MacPhase) (c : ConfineParts) (walk : Walks m waits others slot t phase c) (drives : (w : Option Parts) → phase_drives phase Receiver w ≡ Recessive) where
     pub signals : (x : Level) (kind : ErrorKind) → t ≤ n + 8 → level_at others t ≡ x → Detects wishes c (waits t) phase x kind
-        → (kind ≡ Crc) ⊎ (((kind ≡ Stuff) ⊎ (kind ≡ Form)) × (t ≤ n + 7)) → IsSignalled m waits others n
+        → (kind ≡ Crc) ⊎ (((kind ≡ Stuff) ⊎ (kind ≡ Form)) × (t ≤ n + 7)) → (t : ℕ) × (t ≤ n + 8) × IsSignalledIn m waits others n t
     signals x kind within here step kind_is =
         let more : t < length others = omega (arith, within, frame.size) in
-        let whole = Walks-step m waits others slot t phase c more walk x here drives (part_state (ErrorFlag 0) Receiver wishes (counted ReceiverError c), Some (Error kind)) step in
-        record {
-          t = t;
-          within = within;
-          slot = slot;
-          before = walk.quiet;
-          signals = inl (record {
-            kind = kind;
-            told = Walks-told m waits others slot t phase c more walk kind (counted ReceiverError c) whole;
-            flag = Walks-flag m waits others slot t phase c more walk kind (counted ReceiverError c) whole;
-            kind_is = kind_is;
-          });
-        }
+        let whole = Walks-step m waits others slot t phase c more walk x here drives (part_state (ErrorFlag 0) Receiver wishes (counted ReceiverError c), Some (Error kind)) step in (
+          t,
+          within,
+          record {
+            slot = slot;
+            before = walk.quiet;
+            signals = inl (record {
+              kind = kind;
+              told = Walks-told m waits others slot t phase c more walk kind (counted ReceiverError c) whole;
+              flag = Walks-flag m waits others slot t phase c more walk kind (counted ReceiverError c) whole;
+              kind_is = kind_is;
+            });
+          },
+        )
 
     form_signals : t ≤ n + 8 → level_at others t ≡ Dominant → Detects wishes c (waits t) phase Dominant Form → Signalled
     form_signals within here step = signals Dominant Form within here step (inr (inr refl, early t within here))
@@ -230,18 +231,20 @@ module _ (m : MacState) (waits : ℕ → Option Parts) (others : List Level) (re
               let same : k ≡ n + 1 = omega (arith, past, next) in
               let both : Recessive ≡ Dominant = sym here ∙ ap (level_at others) same ∙ frame.acknowledged in
               cc
-          | inl more ↦ record {
-            t = suc k;
-            within = omega (arith, few);
-            slot = suc k;
-            before = (at_slot (suc k)).quiet;
-            signals = inr (record {
-              drives = Walks-driven m waits others (suc k) (suc k) (AckSlot r) c slot_more (at_slot (suc k)) ∙ acknowledges (waits (suc k));
-              recessive = frame.recessive (suc k) (omega (arith, more)) (omega (arith, few));
-              least = omega (arith, more);
-              most = omega (arith, few);
-            });
-          }
+          | inl more ↦ (
+            suc k,
+            omega (arith, few),
+            record {
+              slot = suc k;
+              before = (at_slot (suc k)).quiet;
+              signals = inr (record {
+                drives = Walks-driven m waits others (suc k) (suc k) (AckSlot r) c slot_more (at_slot (suc k)) ∙ acknowledges (waits (suc k));
+                recessive = frame.recessive (suc k) (omega (arith, more)) (omega (arith, few));
+                least = omega (arith, more);
+                most = omega (arith, few);
+              });
+            },
+          )
         ]
 
         -- no later than the others' frame
@@ -285,14 +288,14 @@ module _ (m : MacState) (waits : ℕ → Option Parts) (others : List Level) (re
               (ending-step wishes new (active-received c ready.active) (waits now) r j few_left)
 
           -- so it detects an error, or the levels end a frame
-          pub acknowledged-signals : (((i : ℕ) → i < 7 → level_at others (k + 2 + i) ≡ Recessive) → ⊥) → IsSignalled m waits others n
+          pub acknowledged-signals : (((i : ℕ) → i < 7 → level_at others (k + 2 + i) ≡ Recessive) → ⊥) → (t : ℕ) × (t ≤ n + 8) × IsSignalledIn m waits others n t
           acknowledged-signals never = elim (search tail_at 7) [
             | inl all ↦ absurd (never all)
             | inr h ↦ tail_signals h.0 h.1 h.2 h.3
           ]
 
     -- if the levels never end a frame that is accepted, it detects an error or breaks the end of the others' frame
-    pub after-part : (r.agrees ≡ true → k ≤ n → level_at others k ≡ Recessive → ((i : ℕ) → i < 7 → level_at others (k + 2 + i) ≡ Recessive) → ⊥) → IsSignalled m waits others n
+    pub after-part : (r.agrees ≡ true → k ≤ n → level_at others k ≡ Recessive → ((i : ℕ) → i < 7 → level_at others (k + 2 + i) ≡ Recessive) → ⊥) → (t : ℕ) × (t ≤ n + 8) × IsSignalledIn m waits others n t
     after-part never = by_delimiter (level_at others k) refl
       where
         by_delimiter : (x : Level) → level_at others k ≡ x → Signalled

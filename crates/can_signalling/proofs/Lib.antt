@@ -16,3 +16,5 @@ pub mod SpelledParts
 pub mod AfterPart
 -- a receiver of a frame of which one level is inverted
 pub mod Receivers
+-- known values
+pub mod Rows

@@ -22,7 +22,7 @@ use Rattle.can_mac.proofs.PartEnds.{agrees-Decides}
 use Rattle.can_detection.specs.WrongBit.{inverted_at, crc_delimiter}
 use Rattle.can_detection.proofs.SixLevels.{five_at_end}
 use Rattle.can_detection.proofs.Receivers.{Spells-unacknowledged}
-use Rattle.can_signalling.specs.Signalling.{IsReady, IsSignalled}
+use Rattle.can_signalling.specs.Signalling.{IsReady, IsSignalledIn}
 use Rattle.can_signalling.proofs.FrameLevels.{others-size, others-first, others-slot, others-recessive}
 use Rattle.can_signalling.proofs.Walks.{Listens}
 use Rattle.can_signalling.proofs.Parts.{PartBy, stuff_error, ends, goes_on, part_by}
@@ -55,7 +55,7 @@ module _ (h : HeardParts) (w : List Level) (p : ℕ) (rest : List Level) (spelle
   others = inverted_at p w ++ rest
 
   abbrev Signalled : Type 0
-  Signalled = IsSignalled m waits (inverted_at p w ++ rest) (crc_delimiter w)
+  Signalled = (t : ℕ) × (t ≤ crc_delimiter w + 8) × IsSignalledIn m waits (inverted_at p w ++ rest) (crc_delimiter w) t
 
   room : n + 10 ≤ length others
   room = others-size h w p rest spelled acked some within
@@ -112,7 +112,7 @@ module _ (h : HeardParts) (w : List Level) (p : ℕ) (rest : List Level) (spelle
       let size : length v ≡ k + 10 = omega (arith, length-append (take k others) ten, length-take-le k others (omega (arith, long))) in
       omega (arith, longer, size, early)
 
-  pub receiver-signals : IsSignalled m waits (inverted_at p w ++ rest) (crc_delimiter w)
+  pub receiver-signals : (t : ℕ) × (t ≤ crc_delimiter w + 8) × IsSignalledIn m waits (inverted_at p w ++ rest) (crc_delimiter w) t
   receiver-signals = by_part (part_by m waits others ready (others-first h w p rest spelled acked some within) (n + 6) (omega (arith, room)))
     where
       seven : suc (n + 6) ≡ n + 7

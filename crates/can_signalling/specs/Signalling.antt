@@ -88,10 +88,8 @@ module _ (m : MacState) (waits : ℕ → Option Parts) (others : List Level) whe
     pub least : n + 3 ≤ t
     pub most : t ≤ n + 7
 
-  -- one of the two, at the latest in the sixth bit of the end of frame
-  pub record IsSignalled (n : ℕ) : Type 0 where
-    pub t : ℕ
-    pub within : t ≤ n + 8
+  -- in bit time t one of the two, for the first time
+  pub record IsSignalledIn (n t : ℕ) : Type 0 where
     pub slot : ℕ
     pub before : IsQuietBefore slot t
     pub signals : ReportsError n t ⊎ BreaksEnd n t

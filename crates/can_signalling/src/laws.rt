@@ -1,9 +1,10 @@
 //! Laws: functions with an empty body, whose contracts are the laws.
-ghost use Rattle.std.specs.Prelude.{ℕ, ◌≡◌, ◌<◌, ◌⊎◌, ◌++◌, true, false, length, List, Option, Some};
+ghost use Rattle.std.specs.Prelude.{ℕ, ◌≡◌, ◌+◌, ◌<◌, ◌≤◌, ◌⊎◌, ◌++◌, true, false, length, List, Option, Some, None};
 ghost use Rattle.can_frame.specs.declared.level.Level.{Level as Bit};
 ghost use Rattle.can_frame.specs.declared.level.Level.TheVariants.{Dominant, Recessive};
 ghost use Rattle.can_frame.specs.Levels.{opposite};
-ghost use Rattle.can_frame.specs.Parts.{Parts};
+ghost use Rattle.can_frame.specs.Parts.{Parts, IsFrame};
+ghost use Rattle.can_wire.specs.Wire.{wire};
 ghost use Rattle.can_wire.specs.Heard.{HeardParts, Spells};
 ghost use Rattle.can_wire.specs.Layout.{level_at};
 ghost use Rattle.can_code.specs.Front.{FrontParts};
@@ -11,12 +12,12 @@ ghost use Rattle.can_terms.specs.declared.event.Event.TheVariants.{Error};
 ghost use Rattle.can_terms.specs.declared.event.ErrorKind.TheVariants.{Ack, Bit as BitError};
 ghost use Rattle.can_mac.specs.declared.phase.Phase.TheVariants.{StuffedPart, AckSlot};
 ghost use Rattle.can_mac.specs.declared.phase.Reading.{Reading};
-ghost use Rattle.can_mac.specs.State.{MacState};
+ghost use Rattle.can_mac.specs.State.{MacState, idle};
 ghost use Rattle.can_mac.specs.Moves.{in_arbitration};
 ghost use Rattle.can_mac.specs.Machine.{mac_drives, mac_step};
 ghost use Rattle.can_mac.specs.Frames.{driven_at};
 ghost use Rattle.can_detection.specs.WrongBit.{inverted_at, crc_delimiter};
-ghost use Rattle.can_signalling.specs.Signalling.{IsTransmitter, IsFixedForm, own_bit_error, flagging, over, sampled, IsReady, IsSignalled};
+ghost use Rattle.can_signalling.specs.Signalling.{IsTransmitter, IsFixedForm, own_bit_error, flagging, over, sampled, IsReady, IsSignalledIn, IsQuietBefore, BreaksEnd};
 
 /// An error active transmitter that samples one of its own bits inverted reports an error in this bit time. An active
 /// error flag starts with the next one, and TEC has risen by 8.
@@ -51,7 +52,12 @@ pub fn a_receiver_signals_one_wrong_level()
     ensures signals { (h : HeardParts) (w : List Bit) (p : ℕ) (rest : List Bit) (m : MacState) (waits : ℕ → Option Parts)
         → Spells h w → h.acked ≡ true → 0 < p → p < crc_delimiter w
         → IsReady m waits
-        → IsSignalled m waits (inverted_at p w ++ rest) (crc_delimiter w) }
+        → (t : ℕ) × (t ≤ crc_delimiter w + 8) × IsSignalledIn m waits (inverted_at p w ++ rest) (crc_delimiter w) t }
+    ensures latest { (f : Parts) × (p : ℕ) × IsFrame f × (0 < p) × (p < crc_delimiter (wire f))
+        × IsSignalledIn idle (λ t. None) (inverted_at p (wire f)) (crc_delimiter (wire f)) (crc_delimiter (wire f) + 8) }
+    ensures breaks_end { (f : Parts) × (p t slot : ℕ) × IsFrame f × (0 < p) × (p < crc_delimiter (wire f))
+        × IsQuietBefore idle (λ t. None) (inverted_at p (wire f)) slot t
+        × BreaksEnd idle (λ t. None) (inverted_at p (wire f)) (crc_delimiter (wire f)) t }
     ensures samples { (m : MacState) (waits : ℕ → Option Parts) (others : List Bit) (t : ℕ)
         → t < length others
         → level_at (sampled m waits others) t ≡ over (level_at others t) (driven_at m waits (sampled m waits others) t) }
