@@ -24,7 +24,7 @@ use Rattle.can_mac.specs.Machine.{mac_step, on_step, phase_drives, stance, state
 use Rattle.can_mac.specs.Frames.{IsActive}
 use Rattle.can_mac.proofs.FrameEnds.{active-on, on-received}
 use Rattle.can_mac.proofs.FrameParts.{part_state}
-use Rattle.can_signalling.specs.Signalling.{over, IsReady, IsSignalledIn}
+use Rattle.can_signalling.specs.Signalling.{over, IsReady, IsSignalledIn, ComesBy, form, crc}
 use Rattle.can_signalling.proofs.Errors.{errs-lands}
 use Rattle.can_signalling.proofs.Sampled.{over-dominant}
 use Rattle.can_signalling.proofs.Walks.{Walks, Listens, Walks-next, Walks-step, Walks-told, Walks-flag, Walks-driven}
@@ -146,18 +146,18 @@ module _ (m : MacState) (waits : ℕ → Option Parts) (others : List Level) (re
   abbrev Signalled : Type 0
   Signalled = (t : ℕ) × (t ≤ n + 8) × IsSignalledIn m waits others n t
 
-  -- a dominant level comes by the fifth bit of the end of frame
-  early : (t : ℕ) → t ≤ n + 8 → level_at others t ≡ Dominant → t ≤ n + 7
-  early t within dominant = elim (cases_lt t (n + 8)) [
+  -- a dominant level comes by the ACK slot
+  early : (t : ℕ) → t ≤ n + 8 → level_at others t ≡ Dominant → t ≤ n + 1
+  early t within dominant = elim (cases_lt t (n + 2)) [
     | inl before ↦ omega arith
-    | inr last ↦ let both : Dominant ≡ Recessive = sym dominant ∙ frame.recessive t (omega arith) within in cc
+    | inr past ↦ let both : Dominant ≡ Recessive = sym dominant ∙ frame.recessive t (omega arith) within in cc
   ]
 
   -- an error in this phase, at a level of the others
   module _ (slot t : ℕ) (phase : MacPhase) (c : ConfineParts) (walk : Walks m waits others slot t phase c) (drives : (w : Option Parts) → phase_drives phase Receiver w ≡ Recessive) where
     pub signals : (x : Level) (kind : ErrorKind) → t ≤ n + 8 → level_at others t ≡ x → Detects wishes c (waits t) phase x kind
-        → (kind ≡ Crc) ⊎ (((kind ≡ Stuff) ⊎ (kind ≡ Form)) × (t ≤ n + 7)) → (t : ℕ) × (t ≤ n + 8) × IsSignalledIn m waits others n t
-    signals x kind within here step kind_is =
+        → ComesBy n t kind → (t : ℕ) × (t ≤ n + 8) × IsSignalledIn m waits others n t
+    signals x kind within here step by =
         let more : t < length others = omega (arith, within, frame.size) in
         let whole = Walks-step m waits others slot t phase c more walk x here drives (part_state (ErrorFlag 0) Receiver wishes (counted ReceiverError c), Some (Error kind)) step in (
           t,
@@ -167,15 +167,14 @@ module _ (m : MacState) (waits : ℕ → Option Parts) (others : List Level) (re
             before = walk.quiet;
             signals = inl (record {
               kind = kind;
-              told = Walks-told m waits others slot t phase c more walk kind (counted ReceiverError c) whole;
-              flag = Walks-flag m waits others slot t phase c more walk kind (counted ReceiverError c) whole;
-              kind_is = kind_is;
+              first = record { silent = walk.quiet.silent; told = Walks-told m waits others slot t phase c more walk kind (counted ReceiverError c) whole; flag = Walks-flag m waits others slot t phase c more walk kind (counted ReceiverError c) whole };
+              by = by;
             });
           },
         )
 
     form_signals : t ≤ n + 8 → level_at others t ≡ Dominant → Detects wishes c (waits t) phase Dominant Form → Signalled
-    form_signals within here step = signals Dominant Form within here step (inr (inr refl, early t within here))
+    form_signals within here step = signals Dominant Form within here step (form (early t within here))
 
   -- the stuffed part has k levels
   module _ (k : ℕ) (r : Reading) (few : k ≤ n + 6) (listens : Listens m waits others k (CrcDelimiter r)) where
@@ -217,7 +216,7 @@ module _ (m : MacState) (waits : ℕ → Option Parts) (others : List Level) (re
         crc_signals Dominant e =
             form_signals (suc k) (suc (suc k)) (AckDelimiter r) c (at_delimiter (suc k)) (λ w. refl) (omega (arith, few)) e (ending-step wishes c ready.active (waits (suc (suc k))) r 0 (omega arith))
         crc_signals Recessive e =
-            signals (suc k) (suc (suc k)) (AckDelimiter r) c (at_delimiter (suc k)) (λ w. refl) Recessive Crc (omega (arith, few)) e (crc-step wishes c ready.active (waits (suc (suc k))) r refused) (inl refl)
+            signals (suc k) (suc (suc k)) (AckDelimiter r) c (at_delimiter (suc k)) (λ w. refl) Recessive Crc (omega (arith, few)) e (crc-step wishes c ready.active (waits (suc (suc k))) r refused) (crc (omega (arith, few)))
 
       -- a right one
       module _ (agreed : r.agrees ≡ true) where

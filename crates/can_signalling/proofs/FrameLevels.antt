@@ -3,6 +3,7 @@ use Rattle.std.proofs.Common.{◌≡◌, ◌≢◌, ℕ, zero, suc, ◌+◌, ◌
 use Rattle.std.proofs.lemmas.List.{append-nil}
 use Rattle.can_frame.specs.declared.level.Level.{Level}
 use Rattle.can_frame.specs.declared.level.Level.TheVariants.{Dominant, Recessive}
+use Rattle.can_frame.specs.Levels.{opposite}
 use Rattle.can_wire.specs.Wire.{tail}
 use Rattle.can_wire.specs.Heard.{HeardParts, heard_head, ack_slot, Spells}
 use Rattle.can_wire.specs.Layout.{level_at, IsPart}
@@ -12,12 +13,18 @@ use Rattle.can_detection.specs.WrongBit.{inverted_at, crc_delimiter}
 use Rattle.can_detection.proofs.FixedForm.{delimiter-is, IsPart-spelled}
 
 -- the other levels are as they were
-inverted_at-other : (w : List Level) (p q : ℕ) → q ≢ p → level_at (inverted_at p w) q ≡ level_at w q
+pub inverted_at-other : (w : List Level) (p q : ℕ) → q ≢ p → level_at (inverted_at p w) q ≡ level_at w q
 inverted_at-other [] p q other = refl
 inverted_at-other (x ∷ w) zero zero other = absurd (other refl)
 inverted_at-other (x ∷ w) zero (suc q) other = refl
 inverted_at-other (x ∷ w) (suc p) zero other = refl
 inverted_at-other (x ∷ w) (suc p) (suc q) other = inverted_at-other w p q (λ e. other (ap suc e))
+
+-- and this one is the opposite
+pub inverted_at-here : (w : List Level) (p : ℕ) → p < length w → level_at (inverted_at p w) p ≡ opposite (level_at w p)
+inverted_at-here [] p inside = absurd (omega arith)
+inverted_at-here (x ∷ w) zero inside = refl
+inverted_at-here (x ∷ w) (suc p) inside = inverted_at-here w p (omega arith)
 
 pub length-inverted_at : (w : List Level) (p : ℕ) → length (inverted_at p w) ≡ length w
 length-inverted_at [] p = refl

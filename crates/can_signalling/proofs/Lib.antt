@@ -16,5 +16,7 @@ pub mod SpelledParts
 pub mod AfterPart
 -- a receiver of a frame of which one level is inverted
 pub mod Receivers
+-- a frame as it is sent, of which one level is inverted, at its transmitter and at a receiver
+pub mod InvertedFrames
 -- known values
 pub mod Rows

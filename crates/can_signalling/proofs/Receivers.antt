@@ -22,7 +22,7 @@ use Rattle.can_mac.proofs.PartEnds.{agrees-Decides}
 use Rattle.can_detection.specs.WrongBit.{inverted_at, crc_delimiter}
 use Rattle.can_detection.proofs.SixLevels.{five_at_end}
 use Rattle.can_detection.proofs.Receivers.{Spells-unacknowledged}
-use Rattle.can_signalling.specs.Signalling.{IsReady, IsSignalledIn}
+use Rattle.can_signalling.specs.Signalling.{IsReady, IsSignalledIn, stuff}
 use Rattle.can_signalling.proofs.FrameLevels.{others-size, others-first, others-slot, others-recessive}
 use Rattle.can_signalling.proofs.Walks.{Listens}
 use Rattle.can_signalling.proofs.Parts.{PartBy, stuff_error, ends, goes_on, part_by}
@@ -94,7 +94,7 @@ module _ (h : HeardParts) (w : List Level) (p : ℕ) (rest : List Level) (spelle
   stuff_signals t f by_then listens error =
       let o : Overloads = record { pending = m.overloads.pending; used = 0 } in
       signals m waits others ready n frame 0 t (StuffedPart f) m.counters (listens 0) (λ v. refl) (level_at others t) Stuff (omega (arith, by_then)) refl
-      (stuff-step o m.counters ready.active (waits t) f (level_at others t) error) (inr (inl refl, by_then))
+      (stuff-step o m.counters ready.active (waits t) f (level_at others t) error) (stuff by_then)
 
   -- no frame that a receiver accepts ends as early as this one
   not_accepted : (k : ℕ) (u : List Level) → IsPart u (take k others) → (reading_of u).agrees ≡ true → k ≤ n → level_at others k ≡ Recessive

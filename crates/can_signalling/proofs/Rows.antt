@@ -1,6 +1,6 @@
 -- Known values: two frames as they are sent, of which one level is inverted, at an idle receiver.
-use Rattle.std.proofs.Common.{◌≡◌, ℕ, zero, suc, ◌+◌, ◌<◌, ◌≤◌, Bool, true, false, ◌&&◌, Option, Some, None, List, [], ◌∷◌, ◌++◌, refl, sym, subst, arith, inl, inr}
-use Rattle.std.specs.Prelude.{is_none, slice_index}
+use Rattle.std.proofs.Common.{◌≡◌, ℕ, zero, suc, ◌+◌, ◌<◌, Bool, true, false, ◌&&◌, Option, Some, None, List, [], ◌∷◌, refl, sym, subst, arith, inl, inr}
+use Rattle.std.specs.Prelude.{slice_index}
 use Rattle.std.proofs.lemmas.Bool.{cases_lt, and_parts}
 use Rattle.can_frame.specs.declared.level.Level.{Level}
 use Rattle.can_frame.specs.declared.level.Level.TheVariants.{Dominant, Recessive}
@@ -21,7 +21,7 @@ use Rattle.can_mac.specs.Machine.{mac_drives, mac_step}
 use Rattle.can_mac.specs.Frames.{state_after, told_at, driven_at}
 use Rattle.can_detection.specs.WrongBit.{inverted_at, crc_delimiter}
 use Rattle.can_detection.proofs.Rows.{sent_065}
-use Rattle.can_signalling.specs.Signalling.{sampled, IsQuietBefore, ReportsError, BreaksEnd, IsSignalledIn}
+use Rattle.can_signalling.specs.Signalling.{sampled, IsQuietBefore, BreaksEnd, IsSignalledIn, crc}
 
 -- ---- an idle receiver without a pending frame
 
@@ -141,7 +141,7 @@ unfolding mac_drives mac_step agrees frame_len frame_of stuffed_part unstuffed s
 flag_remote = refl
 
 signalled_remote : IsSignalledIn idle (λ t. None) shifted 55 63
-signalled_remote = record { slot = 0; before = quiet shifted 63 0 calm_remote; signals = inl (record { kind = Crc; told = told_remote; flag = flag_remote; kind_is = inl refl }) }
+signalled_remote = record { slot = 0; before = quiet shifted 63 0 calm_remote; signals = inl (record { kind = Crc; first = record { silent = (quiet shifted 63 0 calm_remote).silent; told = told_remote; flag = flag_remote }; by = crc (omega arith) }) }
 
 pub latest_error : (f : Parts) × (p : ℕ) × IsFrame f × (0 < p) × (p < crc_delimiter (wire f))
     × IsSignalledIn idle (λ t. None) (inverted_at p (wire f)) (crc_delimiter (wire f)) (crc_delimiter (wire f) + 8)

@@ -121,6 +121,11 @@ module _ (f : Parts) (m : MacState) (is : IsTransmitter f m) where
       let h = form-signals f m.overloads m.counters is.active m.phase form waiting in
       of_parts (SignalsOwn waiting Bit) m.phase refl (ap (λ x. mac_step (part_state m.phase (Sender f) m.overloads m.counters) waiting (opposite x)) h.0 ∙ h.1)
 
+  -- the level that is sampled there
+  pub transmitter-dominant : (waiting : Option Parts) → IsFixedForm m.phase → mac_step m waiting Dominant ≡ (flagging m, Some (Error Bit))
+  transmitter-dominant waiting form =
+      of_parts (λ n. mac_step n waiting Dominant ≡ (flagging n, Some (Error Bit))) m.phase refl (form-signals f m.overloads m.counters is.active m.phase form waiting).1
+
 pub flag-drives : (m : MacState) (waiting : Option Parts) → mac_drives (flagging m) waiting ≡ Dominant
 unfolding mac_drives
 flag-drives m waiting = refl

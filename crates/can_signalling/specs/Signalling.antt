@@ -1,8 +1,9 @@
 -- How one controller signals a wrong bit. (Bosch CAN 2.0 part B, sections 3.1.3, 7.1 and 7.2)
-use Rattle.std.specs.Prelude.{ℕ, suc, ◌≡◌, ◌+◌, ◌<◌, ◌≤◌, ◌⊎◌, ◌==◌, if◌then◌else◌, Option, Some, None, List, [], ◌∷◌}
+use Rattle.std.specs.Prelude.{ℕ, suc, ◌≡◌, ◌+◌, ◌<◌, ◌≤◌, ◌⊎◌, ◌==◌, if◌then◌else◌, Option, Some, None, false, List, [], ◌∷◌, length}
 use Rattle.can_frame.specs.declared.level.Level.{Level}
 use Rattle.can_frame.specs.declared.level.Level.TheVariants.{Dominant, Recessive}
 use Rattle.can_frame.specs.Parts.{Parts}
+use Rattle.can_wire.specs.Wire.{stuffed_part}
 use Rattle.can_wire.specs.Layout.{level_at}
 use Rattle.can_code.specs.Front.{FrontParts}
 use Rattle.can_fault.specs.declared.cause.Cause.TheVariants.{SenderError}
@@ -15,8 +16,15 @@ use Rattle.can_mac.specs.declared.phase.Reading.{Reading}
 use Rattle.can_mac.specs.declared.phase.Role.TheVariants.{Sender}
 use Rattle.can_mac.specs.declared.phase.Phase.TheVariants.{Idle, CrcDelimiter, AckDelimiter, EndOfFrame, ErrorFlag}
 use Rattle.can_mac.specs.State.{MacPhase, MacState, kind_of}
+use Rattle.can_mac.specs.Moves.{in_arbitration}
 use Rattle.can_mac.specs.Machine.{mac_drives, mac_step}
-use Rattle.can_mac.specs.Frames.{IsActive, state_after, told_at, driven_at}
+use Rattle.can_mac.specs.Frames.{IsActive, state_after, told_at, driven_at, with_intermission, heard_front}
+
+-- in bit time t it reports this error, and no event before; an active error flag starts
+pub record SignalsFirst (m : MacState) (waits : ℕ → Option Parts) (levels : List Level) (t : ℕ) (kind : ErrorKind) : Type 0 where
+  pub silent : (o : ℕ) → o < t → told_at m waits levels o ≡ None
+  pub told : told_at m waits levels t ≡ Some (Error kind)
+  pub flag : (state_after m waits levels (suc t)).phase ≡ ErrorFlag 0
 
 -- A transmitter.
 
@@ -39,7 +47,15 @@ own_bit_error front = if front.run == 5 then Stuff else Bit
 abbrev pub flagging : MacState → MacState
 flagging m = record m { phase = ErrorFlag 0; counters = counted SenderError m.counters }
 
+-- level o of f is after the RTR bit, or dominant
+abbrev pub IsOwnBit : Parts → ℕ → Type 0
+IsOwnBit f o = (o < length (stuffed_part f) → in_arbitration f (heard_front f o).unstuffed ≡ false) ⊎ (level_at (with_intermission f) o ≡ Dominant)
+
 -- A receiver.
+
+-- the error if a level after the stuffed part is inverted: in the ACK slot, which it drives itself, a bit error
+abbrev pub fixed_form_error : ℕ → ErrorKind
+fixed_form_error behind = if behind == 1 then Bit else Form
 
 -- a dominant level overrides a recessive one
 abbrev pub over : Level → Level → Level
@@ -58,6 +74,13 @@ pub record IsReady (m : MacState) (waits : ℕ → Option Parts) : Type 0 where
   pub active : IsActive m.counters
   pub none : waits 0 ≡ None
 
+-- A form error comes by the ACK slot of the frame, a stuff error by the fifth bit of its end of frame, a CRC error by the
+-- sixth. No other error comes. n is the place of the CRC delimiter.
+pub data ComesBy (n t : ℕ) : ErrorKind → Type 0 where
+  form : t ≤ n + 1 → ComesBy n t Form
+  stuff : t ≤ n + 7 → ComesBy n t Stuff
+  crc : t ≤ n + 8 → ComesBy n t Crc
+
 -- What a controller does while others leave these levels on the bus.
 module _ (m : MacState) (waits : ℕ → Option Parts) (others : List Level) where
   abbrev levels : List Level
@@ -72,13 +95,11 @@ module _ (m : MacState) (waits : ℕ → Option Parts) (others : List Level) whe
     pub silent : (o : ℕ) → o < t → told_at m waits levels o ≡ None
     pub drives : (o : ℕ) → o < t → DrivesInSlot slot o
 
-  -- in bit time t it reports an error, and starts an active error flag; n is the place of the frame's CRC delimiter
+  -- in bit time t it reports an error
   pub record ReportsError (n t : ℕ) : Type 0 where
     pub kind : ErrorKind
-    pub told : told_at m waits levels t ≡ Some (Error kind)
-    pub flag : (state_after m waits levels (suc t)).phase ≡ ErrorFlag 0
-    -- only a CRC error comes as late as the sixth bit of the end of frame
-    pub kind_is : (kind ≡ Crc) ⊎ (((kind ≡ Stuff) ⊎ (kind ≡ Form)) × (t ≤ n + 7))
+    pub first : SignalsFirst m waits levels t kind
+    pub by : ComesBy n t kind
 
   -- In bit time t it drives its ACK slot dominant, in one of the first five bits of the frame's end of frame. There the
   -- others leave the level recessive, so to them this is a form error, or a bit error.
