@@ -18,7 +18,7 @@ use Rattle.can_mac.specs.declared.phase.Overloads.{Overloads}
 use Rattle.can_mac.specs.declared.phase.Reading.{Reading}
 use Rattle.can_mac.specs.declared.phase.Role.TheVariants.{Receiver}
 use Rattle.can_mac.specs.declared.phase.Phase.TheVariants.{StuffedPart, CrcDelimiter, AckSlot, AckDelimiter, EndOfFrame, ErrorFlag}
-use Rattle.can_mac.specs.State.{MacPhase, MacState}
+use Rattle.can_mac.specs.State.{MacPhase, MacState, kind_of}
 use Rattle.can_mac.specs.Moves.{MacMove, errs, stuffed_part_move, goes}
 use Rattle.can_mac.specs.Machine.{mac_step, on_step, phase_drives, stance, state_after_move}
 use Rattle.can_mac.specs.Frames.{IsActive}
@@ -237,6 +237,7 @@ module _ (m : MacState) (waits : ℕ → Option Parts) (others : List Level) (re
               slot = suc k;
               before = (at_slot (suc k)).quiet;
               signals = inr (record {
+                in_slot = ap kind_of (at_slot (suc k)).state;
                 drives = Walks-driven m waits others (suc k) (suc k) (AckSlot r) c slot_more (at_slot (suc k)) ∙ acknowledges (waits (suc k));
                 recessive = frame.recessive (suc k) (omega (arith, more)) (omega (arith, few));
                 least = omega (arith, more);

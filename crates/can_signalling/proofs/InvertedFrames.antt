@@ -1,8 +1,8 @@
 -- A frame as it is sent, of which a controller samples one level inverted: its transmitter, and a receiver after the stuffed part.
-use Rattle.std.proofs.Common.{◌≡◌, ◌≢◌, ◌+◌, ℕ, zero, suc, ◌<◌, ◌≤◌, ◌⊎◌, true, false, Option, Some, None, List, length, refl, sym, ◌∙◌, ap, subst, arith, inl, inr}
+use Rattle.std.proofs.Common.{◌≡◌, ◌≢◌, ◌+◌, ℕ, zero, suc, ◌<◌, ◌≤◌, ◌⊎◌, true, false, Option, Some, None, List, length, refl, sym, ◌∙◌, ap, subst, arith, cond, inl, inr}
 use Rattle.std.proofs.Math.Dec.{eqb, ltb}
 use Rattle.std.specs.Prelude.{slice_index_or}
-use Rattle.std.proofs.lemmas.Bool.{cases_lt, cases_eq, cond-true, cond-false, cond_both, lt-ltb, ne_eqb}
+use Rattle.std.proofs.lemmas.Bool.{eq-eqb, le-ltb, cases_lt, cases_eq, cond-true, cond-false, cond_both, lt-ltb, ne_eqb}
 use Rattle.can_frame.specs.declared.level.Level.{Level}
 use Rattle.can_frame.specs.declared.level.Level.TheVariants.{Dominant, Recessive}
 use Rattle.can_frame.specs.Levels.{opposite}
@@ -31,7 +31,7 @@ use Rattle.can_mac.proofs.FrameRoles.{role-own}
 use Rattle.can_mac.proofs.FrameRuns.{state_after-frame, told_at-frame}
 use Rattle.can_mac.proofs.FrameDrives.{sender-drives-line}
 use Rattle.can_detection.specs.WrongBit.{inverted_at}
-use Rattle.can_signalling.specs.Signalling.{SignalsFirst, IsTransmitter, IsFixedForm, crc_delimiter, ack_delimiter, end_of_frame, IsOwnBit, own_bit_error, fixed_form_error, flagging, IsReady}
+use Rattle.can_signalling.specs.Signalling.{SignalsFirst, IsTransmitter, IsFixedForm, crc_delimiter, ack_delimiter, end_of_frame, IsOwnBit, own_bit_error, sender_error, fixed_form_error, flagging, IsReady}
 use Rattle.can_signalling.proofs.Errors.{errs-lands}
 use Rattle.can_signalling.proofs.FrameLevels.{inverted_at-other, inverted_at-here}
 use Rattle.can_signalling.proofs.Transmitters.{transmitter-part, transmitter-slot, transmitter-dominant}
@@ -184,7 +184,7 @@ module _ (f : Parts) (m : MacState) (waits : ℕ → Option Parts) (o : ℕ) (st
         first-error (own_bit_error v) sender_event (flagging s) refl
         (ap (mac_step s (waits o)) (wrong ∙ ap opposite (sym drives)) ∙ transmitter-part f s is_transmitter v (waits o) phase (subst (λ x. (in_arbitration f v.unstuffed ≡ false) ⊎ (x ≡ Dominant)) (sym drives) past))
 
-    sender_late : n ≤ o → (kind : ErrorKind) × SignalsFirst m waits levels o kind
+    sender_late : n ≤ o → SignalsFirst m waits levels o (cond (eqb k 1) Ack Bit)
     sender_late past =
         let s = state_after m waits levels o in
         let phase : s.phase ≡ slice_index_or (end_phases (own_reading f)) k Idle = ap (λ t. t.phase) sender_state ∙ phase-late f o past in
@@ -192,19 +192,24 @@ module _ (f : Parts) (m : MacState) (waits : ℕ → Option Parts) (o : ℕ) (st
           | inl one ↦
               let slot : s.phase ≡ AckSlot (own_reading f) = phase ∙ ap (λ i. slice_index_or (end_phases (own_reading f)) i Idle) one in
               let seen : level_at levels o ≡ Recessive = past_level past ∙ ap (λ i. opposite (level_at end_levels i)) one in
-              (Ack, first-error Ack sender_event (flagging s) refl (ap (mac_step s (waits o)) seen ∙ transmitter-slot f s is_transmitter (own_reading f) (waits o) slot))
+              subst (SignalsFirst m waits levels o) (sym (cond-true (eqb k 1) Ack Bit (eq-eqb k 1 one)))
+              (first-error Ack sender_event (flagging s) refl (ap (mac_step s (waits o)) seen ∙ transmitter-slot f s is_transmitter (own_reading f) (waits o) slot))
           | inr other ↦
               let few : k < 10 = omega (arith, within, length-wire f) in
               let form : IsFixedForm s.phase = subst IsFixedForm (sym phase) (form_at (own_reading f) k few other) in
               let seen : level_at levels o ≡ Dominant = past_level past ∙ recessive_end k few other in
-              (Bit, first-error Bit sender_event (flagging s) refl (ap (mac_step s (waits o)) seen ∙ transmitter-dominant f s is_transmitter (waits o) form))
+              subst (SignalsFirst m waits levels o) (sym (cond-false (eqb k 1) Ack Bit (ne_eqb k 1 other)))
+              (first-error Bit sender_event (flagging s) refl (ap (mac_step s (waits o)) seen ∙ transmitter-dominant f s is_transmitter (waits o) form))
         ]
 
-    pub sender-signals : IsOwnBit f o → (kind : ErrorKind) × SignalsFirst m waits (inverted_at o (with_intermission f)) o kind
-    sender-signals bit = elim (cases_lt o n) [
-      | inr past ↦ sender_late past
-      | inl more ↦ (own_bit_error (heard_front f o), sender_early more (still more bit))
-    ]
+    pub sender-signals : IsOwnBit f o → SignalsFirst m waits (inverted_at o (with_intermission f)) o (sender_error f o)
+    sender-signals bit =
+        let v = heard_front f o in
+        let late = cond (eqb k 1) Ack Bit in
+        elim (cases_lt o n) [
+          | inr past ↦ subst (SignalsFirst m waits levels o) (sym (cond-false (ltb o n) (own_bit_error v) late (le-ltb o n (omega arith)))) (sender_late (omega arith))
+          | inl more ↦ subst (SignalsFirst m waits levels o) (sym (cond-true (ltb o n) (own_bit_error v) late (lt-ltb o n more))) (sender_early more (still more bit))
+        ]
       where
         still : o < n → IsOwnBit f o → (in_arbitration f (heard_front f o).unstuffed ≡ false) ⊎ (level_at line o ≡ Dominant)
         still more (inl behind) = inl (behind more)

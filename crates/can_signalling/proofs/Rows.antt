@@ -14,8 +14,9 @@ use Rattle.can_wire.specs.Wire.{head, unstuffed, stuffed_part, wire}
 use Rattle.can_terms.specs.declared.event.Event.{Event}
 use Rattle.can_terms.specs.declared.event.Event.TheVariants.{Error}
 use Rattle.can_terms.specs.declared.event.ErrorKind.TheVariants.{Crc}
+use Rattle.can_terms.specs.declared.phase_kind.PhaseKind.TheVariants as kind
 use Rattle.can_mac.specs.declared.phase.Phase.TheVariants.{ErrorFlag}
-use Rattle.can_mac.specs.State.{idle}
+use Rattle.can_mac.specs.State.{idle, kind_of}
 use Rattle.can_mac.specs.Moves.{agrees}
 use Rattle.can_mac.specs.Machine.{mac_drives, mac_step}
 use Rattle.can_mac.specs.Frames.{state_after, told_at, driven_at}
@@ -93,6 +94,10 @@ drives_065 : driven_at idle nothing (sampled idle nothing broken) 47 ≡ Dominan
 unfolding mac_drives mac_step agrees frame_len frame_of stuffed_part unstuffed stuffed crc_of head arbitration_field bits_of
 drives_065 = refl
 
+slot_065 : kind_of (state_after idle nothing (sampled idle nothing broken) 47) ≡ kind.AckSlot
+unfolding mac_drives mac_step agrees frame_len frame_of stuffed_part unstuffed stuffed crc_of head arbitration_field bits_of
+slot_065 = refl
+
 recessive_065 : level_at broken 47 ≡ Recessive
 unfolding stuffed_part unstuffed stuffed crc_of head arbitration_field bits_of
 recessive_065 = refl
@@ -109,7 +114,7 @@ breaks_end = (
   omega arith,
   omega (arith, delimiter_065),
   quiet broken 47 47 calm_065,
-  record { drives = drives_065; recessive = recessive_065; least = omega (arith, delimiter_065); most = omega (arith, delimiter_065) },
+  record { in_slot = slot_065; drives = drives_065; recessive = recessive_065; least = omega (arith, delimiter_065); most = omega (arith, delimiter_065) },
 )
 
 -- ---- `X 0f403b10 R 6`: with its SRR bit inverted it is read as a standard data frame with three bytes. Five dominant bits end at

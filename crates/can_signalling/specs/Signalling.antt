@@ -1,5 +1,5 @@
--- How one controller signals a wrong bit. (Bosch CAN 2.0 part B, sections 3.1.3, 7.1 and 7.2)
-use Rattle.std.specs.Prelude.{ℕ, suc, ◌≡◌, ◌+◌, ◌<◌, ◌≤◌, ◌⊎◌, ◌==◌, if◌then◌else◌, Option, Some, None, false, List, [], ◌∷◌, length}
+-- How one controller signals a wrong bit. (Bosch CAN 2.0 part B, sections 3.2.3, 7.1 and 7.2)
+use Rattle.std.specs.Prelude.{ℕ, suc, ◌≡◌, ◌+◌, ◌<◌, ◌≤◌, ◌⊎◌, ◌==◌, nat_lt, if◌then◌else◌, Option, Some, None, false, List, [], ◌∷◌, length}
 use Rattle.can_frame.specs.declared.level.Level.{Level}
 use Rattle.can_frame.specs.declared.level.Level.TheVariants.{Dominant, Recessive}
 use Rattle.can_frame.specs.Parts.{Parts}
@@ -10,7 +10,7 @@ use Rattle.can_fault.specs.declared.cause.Cause.TheVariants.{SenderError}
 use Rattle.can_fault.specs.Counters.{counted}
 use Rattle.can_terms.specs.declared.event.Event.TheVariants.{Error}
 use Rattle.can_terms.specs.declared.event.ErrorKind.{ErrorKind}
-use Rattle.can_terms.specs.declared.event.ErrorKind.TheVariants.{Bit, Stuff, Form, Crc}
+use Rattle.can_terms.specs.declared.event.ErrorKind.TheVariants.{Bit, Stuff, Form, Crc, Ack}
 use Rattle.can_terms.specs.declared.phase_kind.PhaseKind.TheVariants as kind
 use Rattle.can_mac.specs.declared.phase.Reading.{Reading}
 use Rattle.can_mac.specs.declared.phase.Role.TheVariants.{Sender}
@@ -18,7 +18,7 @@ use Rattle.can_mac.specs.declared.phase.Phase.TheVariants.{Idle, CrcDelimiter, A
 use Rattle.can_mac.specs.State.{MacPhase, MacState, kind_of}
 use Rattle.can_mac.specs.Moves.{in_arbitration}
 use Rattle.can_mac.specs.Machine.{mac_drives, mac_step}
-use Rattle.can_mac.specs.Frames.{IsActive, state_after, told_at, driven_at, with_intermission, heard_front}
+use Rattle.can_mac.specs.Frames.{IsActive, state_after, told_at, driven_at, with_intermission, heard_front, behind_part}
 
 -- in bit time t it reports this error, and no event before; an active error flag starts
 pub record SignalsFirst (m : MacState) (waits : ℕ → Option Parts) (levels : List Level) (t : ℕ) (kind : ErrorKind) : Type 0 where
@@ -47,13 +47,20 @@ own_bit_error front = if front.run == 5 then Stuff else Bit
 abbrev pub flagging : MacState → MacState
 flagging m = record m { phase = ErrorFlag 0; counters = counted SenderError m.counters }
 
+-- the error of the transmitter of f if level o is inverted
+abbrev pub sender_error : Parts → ℕ → ErrorKind
+sender_error f o =
+    if nat_lt o (length (stuffed_part f)) then own_bit_error (heard_front f o)
+    else if behind_part f o == 1 then Ack
+    else Bit
+
 -- level o of f is after the RTR bit, or dominant
 abbrev pub IsOwnBit : Parts → ℕ → Type 0
 IsOwnBit f o = (o < length (stuffed_part f) → in_arbitration f (heard_front f o).unstuffed ≡ false) ⊎ (level_at (with_intermission f) o ≡ Dominant)
 
 -- A receiver.
 
--- the error if a level after the stuffed part is inverted: in the ACK slot, which it drives itself, a bit error
+-- the error if a level after the stuffed part is inverted, with `behind` levels of these before it: in the ACK slot, which it drives itself, a bit error
 abbrev pub fixed_form_error : ℕ → ErrorKind
 fixed_form_error behind = if behind == 1 then Bit else Form
 
@@ -104,6 +111,7 @@ module _ (m : MacState) (waits : ℕ → Option Parts) (others : List Level) whe
   -- In bit time t it drives its ACK slot dominant, in one of the first five bits of the frame's end of frame. There the
   -- others leave the level recessive, so to them this is a form error, or a bit error.
   pub record BreaksEnd (n t : ℕ) : Type 0 where
+    pub in_slot : kind_of (state_after m waits levels t) ≡ kind.AckSlot
     pub drives : driven_at m waits levels t ≡ Dominant
     pub recessive : level_at others t ≡ Recessive
     pub least : n + 3 ≤ t

@@ -9,7 +9,6 @@ ghost use Rattle.can_wire.specs.Heard.{HeardParts, Spells};
 ghost use Rattle.can_wire.specs.Layout.{level_at};
 ghost use Rattle.can_code.specs.Front.{FrontParts};
 ghost use Rattle.can_terms.specs.declared.event.Event.TheVariants.{Error};
-ghost use Rattle.can_terms.specs.declared.event.ErrorKind.{ErrorKind};
 ghost use Rattle.can_terms.specs.declared.event.ErrorKind.TheVariants.{Ack, Bit as BitError};
 ghost use Rattle.can_mac.specs.declared.phase.Phase.TheVariants.{StuffedPart, AckSlot};
 ghost use Rattle.can_mac.specs.declared.phase.Reading.{Reading};
@@ -18,7 +17,7 @@ ghost use Rattle.can_mac.specs.Moves.{in_arbitration};
 ghost use Rattle.can_mac.specs.Machine.{mac_drives, mac_step};
 ghost use Rattle.can_mac.specs.Frames.{driven_at, StartsWith, with_intermission, behind_part};
 ghost use Rattle.can_detection.specs.WrongBit.{inverted_at, crc_delimiter};
-ghost use Rattle.can_signalling.specs.Signalling.{IsTransmitter, IsFixedForm, IsOwnBit, SignalsFirst, own_bit_error, fixed_form_error, flagging, over, sampled, IsReady, IsSignalledIn, IsQuietBefore, BreaksEnd};
+ghost use Rattle.can_signalling.specs.Signalling.{IsTransmitter, IsFixedForm, IsOwnBit, SignalsFirst, own_bit_error, sender_error, fixed_form_error, flagging, over, sampled, IsReady, IsSignalledIn, IsQuietBefore, BreaksEnd};
 
 /// An error active transmitter that samples one of its own bits inverted reports an error in this bit time. An active
 /// error flag starts with the next one.
@@ -42,7 +41,7 @@ pub fn a_transmitter_signals_each_wrong_bit()
         → mac_step m waiting (opposite (mac_drives m waiting)) ≡ (flagging m, Some (Error BitError)) }
     ensures frame { (f : Parts) (m : MacState) (waits : ℕ → Option Parts) (o : ℕ)
         → StartsWith f m (waits 0) → waits 0 ≡ Some f → 0 < o → o < length (wire f) → IsOwnBit f o
-        → (kind : ErrorKind) × SignalsFirst m waits (inverted_at o (with_intermission f)) o kind }
+        → SignalsFirst m waits (inverted_at o (with_intermission f)) o (sender_error f o) }
     ensures flag { (m : MacState) (waiting : Option Parts) → mac_drives (flagging m) waiting ≡ Dominant }
 {}
 

@@ -1,5 +1,5 @@
 //! How one controller signals one wrong bit: the error that it reports, and its error flag. This crate has laws alone.
-//! (Bosch CAN 2.0 part B, sections 3.1.3, 7.1 and 7.2)
+//! (Bosch CAN 2.0 part B, sections 3.2.3, 7.1 and 7.2)
 //!
 //! | File | What it has | Defined in |
 //! |---|---|---|
