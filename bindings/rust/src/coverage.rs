@@ -14,7 +14,8 @@ use crate::{named, sys, Event, Level, Port};
 /// let mut coverage = Coverage::new();
 /// port.offer(&Frame::standard(0x123, &[])?)?;
 /// for _ in 0..60 {
-///     coverage.sample(&mut port, port.drive());
+///     let level = port.drive();
+///     coverage.sample(&mut port, level);
 /// }
 /// let lines: Vec<_> = (0..Coverage::ITEMS).map(|item| coverage.line(item)).collect();
 /// assert!(lines.contains(&"coverage 2 Start of frame, transmitter active".to_string()));
