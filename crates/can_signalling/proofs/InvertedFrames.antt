@@ -220,9 +220,6 @@ module _ (f : Parts) (m : MacState) (waits : ℕ → Option Parts) (o : ℕ) (st
     few_levels : k < 9
     few_levels = omega (arith, early_end, past)
 
-    new : ConfineParts
-    new = counters_after Receiver c k
-
     receiver_state : state_after m waits levels o ≡ part_state (slice_index_or (end_phases (own_reading f)) k Idle) Receiver wishes (counters_after Receiver c k)
     receiver_state =
         state_is ∙ ap (λ w. frame_state f w m.overloads.pending c o) none
