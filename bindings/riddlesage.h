@@ -537,7 +537,10 @@ typedef enum riddlesage_field {
 riddlesage_status riddlesage_marks(const uint8_t *levels, size_t length, uint8_t *fields, uint8_t *stuffed,
                                    size_t *count);
 
-/** The most bytes of a text that a call below writes. */
+/**
+ * The most bytes of a text that a call below writes. To get the length of a text first, call with a capacity of 0 and a
+ * buffer that is not NULL: the status is NO_ROOM, and `count` is the length.
+ */
 enum { RIDDLESAGE_MOST_TEXT = 33554432 };
 
 /** The capacity for the name of a field of a scenario or a network, in bytes. */
@@ -581,7 +584,7 @@ typedef struct riddlesage_port_time {
  * @param port the index of the port; the first is 0
  * @param[out] times the bit times, the first of the scenario first
  * @param room the capacity of `times`, in elements; RIDDLESAGE_MOST_BITS suffices
- * @param[out] count how many bit times the scenario has
+ * @param[out] count how many bit times the scenario has: its `bits`. It is not written with NO_ROOM
  * @param[out] field with BAD_SCENARIO the first field that is wrong, such as `port[0].log`, with a terminating 0:
  * RIDDLESAGE_FIELD_ROOM bytes; may be NULL
  * @return OK, NULL_POINTER, NO_MEMORY, BAD_SCENARIO, NO_SUCH_PORT, NO_ROOM
