@@ -110,7 +110,10 @@ def _document_at(document: str | Buffer) -> contextlib.AbstractContextManager[tu
 
 
 def run(scenario: str | Buffer) -> str:
-    """Simulates a scenario, a TOML document, and returns its report: the output of `canbit run`."""
+    """Simulates a scenario, a TOML document, and returns its report: the output of `canbit run`.
+
+    The module `riddlesage.run` is the command: importing it hides this function as `riddlesage.run`.
+    """
     field = ctypes.create_string_buffer(FIELD_ROOM)
     with _document_at(scenario) as document:
         status, report = _written(lib.riddlesage_run, document, field)
