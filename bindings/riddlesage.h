@@ -97,12 +97,12 @@ typedef enum riddlesage_status {
   RIDDLESAGE_BAD_SCENARIO = 19,  /**< the text is not a valid scenario */
   RIDDLESAGE_BAD_BYTE = 20,      /**< a byte of a trace is neither a level, nor a space, nor part of a line end */
   RIDDLESAGE_BAD_BUS = 21,       /**< a bus has no ports, more than 64, or the same one twice */
-  RIDDLESAGE_NO_SUCH_PORT = 22,  /**< an offer, a hit or a number names no port of the bus or the scenario */
+  RIDDLESAGE_NO_SUCH_PORT = 22,  /**< an offer, a hit or the caller names a port that the bus or scenario lacks */
   RIDDLESAGE_BAD_ORDER = 23,     /**< an offer is earlier than the previous one, or a hit not above the previous one */
   RIDDLESAGE_BAD_KIND = 24,      /**< the kind of a hit is not a riddlesage_hit_kind */
   RIDDLESAGE_BAD_WIRE = 25,      /**< the fields of a wire are out of range, or it has had 2^64 - 1 bit times */
   RIDDLESAGE_BAD_NETWORK = 26,   /**< the text is not a valid network */
-  RIDDLESAGE_NO_MESSAGE = 27,    /**< no message of the network has this name */
+  RIDDLESAGE_NO_MESSAGE = 27,    /**< no message of the network has this `frame` */
   RIDDLESAGE_TOO_LONG = 28       /**< the worst case is longer than a scenario can be, or has no end */
 } riddlesage_status;
 
@@ -537,7 +537,10 @@ typedef enum riddlesage_field {
 riddlesage_status riddlesage_marks(const uint8_t *levels, size_t length, uint8_t *fields, uint8_t *stuffed,
                                    size_t *count);
 
-/** The most bytes of a text that a call below writes. */
+/**
+ * The most bytes of a text that a call below writes. To get the length of a text first, call with a capacity of 0 and a
+ * buffer that is not NULL: the status is NO_ROOM, and `count` is the length.
+ */
 enum { RIDDLESAGE_MOST_TEXT = 33554432 };
 
 /** The capacity for the name of a field of a scenario or a network, in bytes. */
@@ -581,7 +584,7 @@ typedef struct riddlesage_port_time {
  * @param port the index of the port; the first is 0
  * @param[out] times the bit times, the first of the scenario first
  * @param room the capacity of `times`, in elements; RIDDLESAGE_MOST_BITS suffices
- * @param[out] count how many bit times the scenario has
+ * @param[out] count how many bit times the scenario has: its `bits`. It is not written with NO_ROOM
  * @param[out] field with BAD_SCENARIO the first field that is wrong, such as `port[0].log`, with a terminating 0:
  * RIDDLESAGE_FIELD_ROOM bytes; may be NULL
  * @return OK, NULL_POINTER, NO_MEMORY, BAD_SCENARIO, NO_SUCH_PORT, NO_ROOM
@@ -617,7 +620,9 @@ riddlesage_status riddlesage_plan(const char *text, size_t length, uint8_t detai
  * byte the output of `canplan --timeline` (docs/PLANNING.md).
  * @param[in] text the network, a TOML document
  * @param length its length in bytes
- * @param[in] message the `frame` of the message, such as `S 300 D`; it needs no terminating 0
+ * The port of the message is its place in the report of riddlesage_plan(), the first being 0, and at most 63.
+ * @param[in] message the `frame` of the message as the network has it, such as `S 300 D`: not its `name`, and without
+ * the DLC that the report of riddlesage_plan() adds; it needs no terminating 0
  * @param message_length its length in bytes
  * @param[out] scenario the scenario, without a terminating 0
  * @param room the capacity of `scenario`, in bytes

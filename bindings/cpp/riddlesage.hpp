@@ -851,8 +851,9 @@ template <typename Call> [[nodiscard]] Written written_for_network(const Call &c
 }
 
 /// Returns the worst case of a message of a network, such as `S 300 D`, without bit errors, as a scenario for run():
-/// the output of `canplan --timeline`. Fails with bad_network, no_message, too_long, no_memory, and no_room beyond
-/// RIDDLESAGE_MOST_TEXT bytes.
+/// the output of `canplan --timeline`. The message is named by its `frame`, as the network has it. Its port in the
+/// scenario is its place in the report of plan(), the first being 0, and at most 63. Fails with bad_network,
+/// no_message, too_long, no_memory, and no_room beyond RIDDLESAGE_MOST_TEXT bytes.
 [[nodiscard]] inline Written worst_case(std::string_view network, std::string_view message)
 {
   return detail::written_for_network([&](Written &to, std::size_t *count, riddlesage_wrong *wrong) {

@@ -160,10 +160,10 @@ def check_related(asking: Asking) -> None:
             raise Fault(why, NOTHING_HELD)
     check = asking.ask(asking.self_check())
     if check.found is None:
-        raise Fault(
-            "self-check: a mutation was injected into the design and not detected: the register mapping is too weak",
-            NOTHING_HELD,
-        )
+        why = "self-check: a mutation was injected into the design and not detected: the register mapping is too weak"
+        if not any(part.startswith(HOLDS) for part in asking.netlist.parts):
+            why += "; it has no holds_..: give a wiring to --play or --find"
+        raise Fault(why, NOTHING_HELD)
     show(detected(check, check.found.fails[0]))
 
 

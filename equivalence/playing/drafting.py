@@ -195,7 +195,13 @@ COMMENTS = {
     "given_overload_count": [
         "The circuit ignores a request for 3 own overload frames. If the design ignores it, too, delete this part:",
         "then nothing is assumed.",
-    ]
+    ],
+    "same_event_code": [
+        "In its bit time. If the design reports it later, as a registered output does, copy the lines below.",
+    ],
+    "same_frame_data": [
+        "The first byte is at [7:0]. If it is the design's most significant one, copy the lines below.",
+    ],
 }
 
 

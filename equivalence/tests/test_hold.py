@@ -132,6 +132,7 @@ class Relations(Files):
 
     def test_a_mapping_that_is_too_weak(self) -> None:
         self.prints(self.hold({**SAME, "holds_phase": "gates.phase <= 4'd1"}), 5, "into the design and not detected")
+        self.prints(self.hold(SAME), 5, "it has no holds_..: give a wiring to --play or --find")
         self.prints(self.hold(STATE), 5, "it has no output same_")
         self.prints(self.hold({"same_state": "dut.state == 4'd5", **STATE}), 5, "must compare gates.drive")
         self.prints(self.hold({**SAME, **STATE, "same_x": "1'b1"}), 5, "same_x has no effect")
@@ -198,11 +199,17 @@ class Uses(Files):
         self.prints(ran, 3, "yosys is not installed: apt-get install yosys")
 
     def test_a_file_that_does_not_exist(self) -> None:
-        self.prints(self.run_hold(str(self.room / "none.v"), str(self.room / "none.v")), 3, "none.v")
+        gone = str(self.room / "none.v")
+        self.prints(self.run_hold(gone, gone), 3, f"hold: {gone}: No such file or directory\n")
 
     def test_wrong_usage(self) -> None:
         self.assertEqual(self.run_hold().returncode, 2)
         self.assertEqual(self.run_hold("--smoke", "0", "relation.v", "small.v").returncode, 2)
+        for words, missing in (("--wiring", "DESIGN"), ("--play", "WIRING, DESIGN"), ("relation.v", "DESIGN")):
+            self.prints(self.run_hold(words), 2, f"arguments are required: {missing}\n")
+
+    def test_options_between_the_files(self) -> None:
+        self.prints(self.run_hold("relation.v", "--smoke", "0", "small.v"), 2, "--smoke: must be 1 to 200 bit times")
 
     def test_a_text_that_is_no_mapping(self) -> None:
         for text in ("", "module relation(input clock); endmodule", RELATION + RELATION):

@@ -51,7 +51,7 @@ class Usage(Reported):
         self.file = self.room / "nowhere" / "report.xml"
         ran = self.run_hold("relation.v", "small.v")
         self.assertEqual((ran.returncode, ran.stdout), (3, ""))
-        self.assertEqual(ran.stderr, f"hold: [Errno 2] No such file or directory: '{self.file}'\n")
+        self.assertEqual(ran.stderr, f"hold: {self.file}: No such file or directory\n")
 
     @unittest.skipUnless(MODULE.exists(), "junitparser is not installed")
     def test_faults(self) -> None:

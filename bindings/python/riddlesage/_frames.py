@@ -75,12 +75,12 @@ _MEANINGS = {
     Status.BAD_SCENARIO: "the text is not a valid scenario",
     Status.BAD_BYTE: "a byte of a trace is not a level",
     Status.BAD_BUS: "a bus has 1 to 64 ports, each once",
-    Status.NO_SUCH_PORT: "an offer, a hit or a number names no port of the bus or the scenario",
+    Status.NO_SUCH_PORT: "an offer, a hit or the caller names a port that the bus or the scenario does not have",
     Status.BAD_ORDER: "offers or hits are not in order",
     Status.BAD_KIND: "there is no such kind of hit",
     Status.BAD_WIRE: "2^64 - 1 bit times have passed",
     Status.BAD_NETWORK: "the text is not a valid network",
-    Status.NO_MESSAGE: "no message of the network has this name",
+    Status.NO_MESSAGE: "no message of the network has this frame; it is written as in the network, such as 'S 300 D'",
     Status.TOO_LONG: "the worst case is longer than a scenario can be, or has no end",
 }
 

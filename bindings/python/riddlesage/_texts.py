@@ -16,12 +16,20 @@ from riddlesage._ports import Counters, Event, Phase
 _ROOM = 1 << 16
 
 
+def _why_bad(field: str) -> str:
+    """What is wrong with a field of a scenario, as far as its name says it."""
+    if field == "toml":
+        return "not a valid TOML document"
+    if field.rpartition(".")[2] == "key":
+        return "a field of this table is unknown"
+    return "missing, or not a valid value"
+
+
 class BadScenario(RiddlesageError, ValueError):
     """A text is not a valid scenario. `field` is the first one that is wrong, such as `port[0].log`."""
 
     def __init__(self, field: str) -> None:
-        why = "not a valid TOML document" if field == "toml" else "missing, unknown or not a valid value"
-        super().__init__(f"bad scenario: {field}: {why}")
+        super().__init__(f"bad scenario: {field}: {_why_bad(field)}")
         self.field = field
 
     def __reduce__(self) -> tuple[type[BadScenario], tuple[str]]:
@@ -102,7 +110,10 @@ def _document_at(document: str | Buffer) -> contextlib.AbstractContextManager[tu
 
 
 def run(scenario: str | Buffer) -> str:
-    """Simulates a scenario, a TOML document, and returns its report: the output of `canbit run`."""
+    """Simulates a scenario, a TOML document, and returns its report: the output of `canbit run`.
+
+    The module `riddlesage.run` is the command: importing it hides this function as `riddlesage.run`.
+    """
     field = ctypes.create_string_buffer(FIELD_ROOM)
     with _document_at(scenario) as document:
         status, report = _written(lib.riddlesage_run, document, field)
@@ -158,11 +169,12 @@ def plan_network(network: str | Buffer, *, details: bool = False) -> Planned:
 def worst_case(network: str | Buffer, message: str) -> str:
     """Returns the worst case of a message of a network, such as `S 300 D`, without bit errors, as a scenario for `run`.
 
-    It is the output of `canplan --timeline`. If no message has this name, or its worst case is longer than a scenario
-    can be, it raises Refused with the status NO_MESSAGE or TOO_LONG.
+    It is the output of `canplan --timeline`. The message is named by its `frame`, as the network has it. Its port in
+    the scenario is its place in the report of `plan_network`, the first being 0, and at most 63. If no message has this
+    frame, or its worst case is longer than a scenario can be, it raises Refused with the status NO_MESSAGE or TOO_LONG.
     """
     if not isinstance(message, str):
-        raise TypeError(f"expected the name of a message, got {type(message).__name__}")
+        raise TypeError(f"expected a message, such as 'S 300 D', got {type(message).__name__}")
     name, wrong = message.encode("utf-8"), PlainWrong()
     with _document_at(network) as document:
         status, scenario = _written(lib.riddlesage_worst_case, (*document, name, len(name)), wrong)

@@ -107,7 +107,7 @@ def _read_frame(identifier: str, content: str) -> Frame | Other:
     if remote:
         return _made(identifier, b"", int(remote[2] or remote[1] or "0", 16), True)
     if not data:
-        raise BadLine(f"this is not a frame: {identifier}#{content}")
+        raise BadLine(f"these are not data bytes: {content}")
     given = bytes.fromhex(data[1].replace(".", ""))
     return _made(identifier, given, int(data[2], 16) if data[2] else len(given), False)
 

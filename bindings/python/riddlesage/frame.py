@@ -90,9 +90,9 @@ def _frame(text: str) -> Frame:
     try:
         what = read_line(text).what
     except BadLine as wrong:
-        raise argparse.ArgumentTypeError(f"{wrong}: {text!r}") from wrong
+        raise argparse.ArgumentTypeError(f"{text!r}: {wrong}; write a frame as 123#AA55 or 123#R") from wrong
     if isinstance(what, Other):
-        raise argparse.ArgumentTypeError(f"{what.value} has no fields: {text!r}")
+        raise argparse.ArgumentTypeError(f"{text!r}: {what.value} is not a data frame or a remote frame")
     return what
 
 
@@ -110,7 +110,7 @@ def main(words: Sequence[str] | None = None) -> int:
         "the frame, and the levels, with stuff bits in brackets; before that the lengths, and the CRC sequence.",
     )
     parser.add_argument("frames", metavar="FRAME", nargs="+", type=_frame, help="a frame, such as 123#AA55 or 123#R")
-    parser.add_argument("--bitrate", type=_bitrate, metavar="N", help="bit rate, in bits per second: also microseconds")
+    parser.add_argument("--bitrate", type=_bitrate, metavar="N", help="bits per second: prints microseconds too")
     options = parser.parse_args(words)
     for frame in options.frames:
         print("\n".join(lines(frame, options.bitrate)))

@@ -31,10 +31,11 @@ Usage: python3 -m riddlesage.plan [FILE]
 FILE has a network, a TOML document (docs/PLANNING.md). Without FILE, or with -, it is read from
 standard input. For each message an upper bound on the time from the release of a frame to its end
 is printed; with --details also the parts of each bound. With --timeline the worst case of MESSAGE,
-such as 'S 300 D', is printed, as a scenario for python3 -m riddlesage.run.
+such as 'S 300 D', is printed, as a scenario for python3 -m riddlesage.run. MESSAGE is the `frame` of
+the document, not the `name`; options come before FILE.
 
 Output, faults and exit statuses are those of canplan: 1 if the document is refused, no message has
-this name, its worst case is too long, or a message may miss its deadline; 2 for unknown arguments;
+this frame, its worst case is too long, or a message may miss its deadline; 2 for unknown arguments;
 3 if the input cannot be read or the output cannot be written; 4 without memory. The status is also
 2 if FILE cannot be opened, or the library is missing.
 """

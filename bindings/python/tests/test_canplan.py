@@ -6,6 +6,7 @@ import importlib.machinery
 import importlib.util
 import os
 import pathlib
+import re
 import subprocess
 import sys
 from typing import Any
@@ -219,6 +220,9 @@ def test_port_times_are_refused() -> None:
         with pytest.raises(Refused) as caught:
             port_times(scenario, place)
         assert caught.value.status == Status.NO_SUCH_PORT
-    with pytest.raises(BadScenario) as wrong:
+    with pytest.raises(BadScenario, match="bits: missing, or not a valid value") as wrong:
         port_times("version = 1\nport = [{}]", 0)
     assert wrong.value.field == "bits"
+    for text, words in (("x = 1", "key"), ("bits = 3\nport = [{ y = 1 }]", "port[0].key")):
+        with pytest.raises(BadScenario, match=f"{re.escape(words)}: a field of this table is unknown"):
+            port_times(f"version = 1\n{text}", 0)

@@ -95,6 +95,21 @@ def test_wrong_use(words: list[str]) -> None:
     assert ended.value.code == 2
 
 
+@pytest.mark.parametrize(
+    ("text", "why"),
+    [
+        ("S 123 D 0", "this is not a line of candump; write a frame as 123#AA55 or 123#R"),
+        ("123#AA5", "these are not data bytes: AA5; write a frame as 123#AA55 or 123#R"),
+        ("123##1", "a CAN FD frame is not a data frame or a remote frame"),
+    ],
+)
+def test_what_is_refused(text: str, why: str, capsys: pytest.CaptureFixture[str]) -> None:
+    """The refusal names the argument, and says what is wrong."""
+    with pytest.raises(SystemExit):
+        main([text])
+    assert f"argument FRAME: '{text}': {why}\n" in capsys.readouterr().err
+
+
 def annotated(file: pathlib.Path, classes: str) -> list[tuple[int, str]]:
     """What sigrok prints for levels: the first bit time of each annotation, and its text before a colon."""
     words = ["sigrok-cli", "-I", f"binary:numchannels=1:samplerate={SAMPLES}000000", "-i", str(file)]

@@ -17,7 +17,7 @@ pub enum NetworkFault {
         /// What it must be, such as `must be 0 to 15`.
         words: String,
     },
-    /// No message of the network has this name.
+    /// No message of the network has this `frame`.
     NoMessage,
     /// The worst case is longer than a scenario can be, or has no end.
     Endless,
@@ -31,7 +31,9 @@ impl fmt::Display for NetworkFault {
     fn fmt(&self, out: &mut fmt::Formatter<'_>) -> fmt::Result {
         match self {
             Self::Field { field, words } => write!(out, "bad network: {field}: {words}"),
-            Self::NoMessage => out.write_str("no message: no message of the network has this name"),
+            Self::NoMessage => out.write_str(
+                "no message: no message of the network has this frame; it is written as there, such as S 300 D",
+            ),
             Self::Endless => out.write_str("too long: the busy period has more than 999,999 bit times, or no end"),
             Self::NoMemory => out.write_str("no memory: there is none for the analysis"),
             Self::TooLong => out.write_str("no room: the text has more than 33,554,432 bytes"),
@@ -89,7 +91,8 @@ pub fn plan(network: &str, details: bool) -> Result<Planned, NetworkFault> {
 }
 
 /// Returns the worst case of a message of a network, such as `S 300 D`, without bit errors, as a scenario for
-/// [`run`](crate::run): the output of `canplan --timeline`.
+/// [`run`](crate::run): the output of `canplan --timeline`. The message is named by its `frame`, as the network has it.
+/// Its port in the scenario is its place in the report of [`plan`], the first being 0, and at most 63.
 ///
 /// # Errors
 ///

@@ -26,7 +26,10 @@ impl fmt::Display for ScenarioFault {
     fn fmt(&self, out: &mut fmt::Formatter<'_>) -> fmt::Result {
         match self {
             Self::Field(field) if field == "toml" => out.write_str("bad scenario: toml: not a valid TOML document"),
-            Self::Field(field) => write!(out, "bad scenario: {field}: missing, unknown or not a valid value"),
+            Self::Field(field) if field.rsplit('.').next() == Some("key") => {
+                write!(out, "bad scenario: {field}: a field of this table is unknown")
+            }
+            Self::Field(field) => write!(out, "bad scenario: {field}: missing, or not a valid value"),
             Self::NoMemory => out.write_str("no memory: there is none for the simulation"),
             Self::TooLong => out.write_str("no room: the report has more than 33,554,432 bytes"),
             Self::NoSuchPort => out.write_str("no such port: the scenario has no port with this number"),

@@ -155,6 +155,14 @@ fn texts() {
     assert_eq!(long.len(), "bits 100000\n\nport 0 active tec 0 rec 0 missed 0\n".len() + 100_000);
     let field = ScenarioFault::Field("port[0].log".to_string());
     assert_eq!(run("version = 1\nbits = 3\nport = [{ log = -1 }]"), Err(field));
+    for (text, words) in [
+        ("bits = 3\nport = [{}]\nx = 1", "key: a field of this table is unknown"),
+        ("bits = 3\nport = [{ y = 1 }]", "port[0].key: a field of this table is unknown"),
+        ("port = [{}]", "bits: missing, or not a valid value"),
+    ] {
+        let fault = run(&format!("version = 1\n{text}")).expect_err("a refusal");
+        assert_eq!(fault.to_string(), format!("bad scenario: {words}"));
+    }
     assert_eq!(decode_trace("111 000000\n").as_deref(), Ok("3 fault C3 at 8\n"));
     let fault = TraceFault::BadByte { place: 7, lines: "0 fault C3 at 5\n".to_string() };
     assert_eq!(decode_trace("0000001x0"), Err(fault));
