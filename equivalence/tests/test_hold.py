@@ -60,7 +60,7 @@ class Files(unittest.TestCase):
     def run_hold(self, *words: str, path: str | None = None) -> subprocess.CompletedProcess[str]:
         environment = dict(os.environ, PATH=path) if path is not None else None
         command = [sys.executable, str(FOLDER / "hold"), *words]
-        return subprocess.run(command, capture_output=True, text=True, timeout=300, env=environment)
+        return subprocess.run(command, capture_output=True, text=True, timeout=1800, env=environment)
 
     def hold(self, parts: dict[str, str], *words: str) -> subprocess.CompletedProcess[str]:
         lines = "\n    ".join(f"assign {name} = {value};" for name, value in parts.items())
