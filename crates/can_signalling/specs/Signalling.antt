@@ -56,11 +56,14 @@ sender_error f o =
 
 -- level o of f is after the RTR bit, or dominant
 abbrev pub IsOwnBit : Parts → ℕ → Type 0
-IsOwnBit f o = (o < length (stuffed_part f) → in_arbitration f (heard_front f o).unstuffed ≡ false) ⊎ (level_at (with_intermission f) o ≡ Dominant)
+IsOwnBit f o =
+    (o < length (stuffed_part f) → in_arbitration f (heard_front f o).unstuffed ≡ false)
+    ⊎ (level_at (with_intermission f) o ≡ Dominant)
 
 -- A receiver.
 
--- the error if a level after the stuffed part is inverted, with `behind` levels of these before it: in the ACK slot, which it drives itself, a bit error
+-- the error if a level after the stuffed part is inverted, with `behind` levels of these before it: in the ACK slot, which
+-- it drives itself, a bit error
 abbrev pub fixed_form_error : ℕ → ErrorKind
 fixed_form_error behind = if behind == 1 then Bit else Form
 
@@ -73,7 +76,8 @@ over Recessive x = x
 abbrev pub sampled : MacState → (ℕ → Option Parts) → List Level → List Level
 sampled m waits [] = []
 sampled m waits (x ∷ others) =
-    over x (mac_drives m (waits 0)) ∷ sampled (mac_step m (waits 0) (over x (mac_drives m (waits 0)))).0 (λ t. waits (suc t)) others
+    over x (mac_drives m (waits 0))
+    ∷ sampled (mac_step m (waits 0) (over x (mac_drives m (waits 0)))).0 (λ t. waits (suc t)) others
 
 -- error active, idle, and without a pending frame as a frame begins
 pub record IsReady (m : MacState) (waits : ℕ → Option Parts) : Type 0 where
@@ -95,7 +99,9 @@ module _ (m : MacState) (waits : ℕ → Option Parts) (others : List Level) whe
 
   -- it drives recessive in this bit time, or this is its ACK slot
   abbrev pub DrivesInSlot : (slot t : ℕ) → Type 0
-  DrivesInSlot slot t = (driven_at m waits levels t ≡ Recessive) ⊎ ((t ≡ slot) × (kind_of (state_after m waits levels t) ≡ kind.AckSlot))
+  DrivesInSlot slot t =
+      (driven_at m waits levels t ≡ Recessive)
+      ⊎ ((t ≡ slot) × (kind_of (state_after m waits levels t) ≡ kind.AckSlot))
 
   -- Before bit time t it reports no event, so it has accepted no frame. It drives dominant at most in its ACK slot.
   pub record IsQuietBefore (slot t : ℕ) : Type 0 where
